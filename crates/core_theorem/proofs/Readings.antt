@@ -2,7 +2,7 @@
 use Rattle.core_views.specs.LogCommands.{reads_logs}
 use Rattle.core_views.specs.Traces.{IsCommandFor}
 use Rattle.core_views.specs.declared.trace.Command.{Command}
-use Rattle.core_views.specs.declared.trace.Command.TheVariants.{Access, ChangeHost}
+use Rattle.core_views.specs.declared.trace.Command.TheVariants.{Access, ChangeHost, ChangeRun}
 use Rattle.std.proofs.Common.{◌≡◌, ◌⊎◌, inl, inr, ℕ, List, [], ◌∷◌, ◌++◌, refl, sym, subst, ap, ◌∙◌, append_assoc}
 use Rattle.std.specs.Prelude.{Bool, false, true}
 use Rattle.core_views.specs.declared.actor.Actor.{Actor}
@@ -129,6 +129,7 @@ only_the_manager_manages z lines w ss R = only_from z w ss (start_good z lines w
 reads_manage : (command : Command) → manages command ≡ false → reads_logs command ≡ false
 reads_manage (Access gfn word op) none = refl
 reads_manage (ChangeHost page change) none = refl
+reads_manage (ChangeRun page change) none = refl
 reads_manage _ none = absurd (cc none)
 
 reading_left : (actor : Actor) (kind : EventKind) → LeavesManaging Manager actor kind → LeavesReading Manager actor kind

@@ -14,3 +14,4 @@ pub mod Ranges
 pub mod LowestFrames
 pub mod AskedFrames
 pub mod UnloggedSlots
+pub mod RunStages

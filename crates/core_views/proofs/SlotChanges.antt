@@ -10,7 +10,7 @@ use Rattle.core_views.specs.Migrations.{is_migrating, or_barred}
 use Rattle.core_views.specs.declared.memory_slot.MemorySlot.{MemorySlot}
 use Rattle.core_views.specs.declared.trace.Command.{Command}
 use Rattle.core_views.specs.declared.actor.Actor.TheVariants.{Manager}
-use Rattle.core_views.specs.declared.trace.Command.TheVariants.{Access, ChangeHost, ClearLog, GetLog, Migrate, SetLog, SetSlot}
+use Rattle.core_views.specs.declared.trace.Command.TheVariants.{Access, ChangeHost, ChangeRun, ClearLog, GetLog, Migrate, SetLog, SetSlot}
 use Rattle.core_views.specs.declared.actor.Actor.{Actor}
 use Rattle.core_views.specs.declared.sizes.Sizes.{Sizes}
 use Rattle.core_views.specs.SlotCommands.{HasPages, after_change, at_once, change_at_once, change_refusal, changes_slot, is_unchanged}
@@ -27,6 +27,7 @@ pub changes : (z : Sizes) (line : Line) (command : Command) (f : Facts) (change 
     → working z line command f ≡ by line (SlotChanged change.0 change.1) ∷ arming z line command
 changes z line (Access gfn word op) f change is = absurd (cc is)
 changes z line (ChangeHost page change_) f change is = absurd (cc is)
+changes z line (ChangeRun page change_) f change is = absurd (cc is)
 changes z line (GetLog id) f change is = absurd (cc is)
 changes z line (ClearLog id first count words) f change is = absurd (cc is)
 changes z line (Migrate call) f change is = absurd (cc is)
@@ -37,6 +38,7 @@ pub answered_by_slots : (z : Sizes) (slots : MemorySlots) (migration : Migration
     → answer_at_once z slots migration actor command ≡ or_barred (is_migrating migration) (option_map refused_or_done (change_at_once z command slots))
 answered_by_slots z slots migration actor (Access gfn word op) is = absurd (cc is)
 answered_by_slots z slots migration actor (ChangeHost page change) is = absurd (cc is)
+answered_by_slots z slots migration actor (ChangeRun page change) is = absurd (cc is)
 answered_by_slots z slots migration actor (GetLog id) is = absurd (cc is)
 answered_by_slots z slots migration actor (ClearLog id first count words) is = absurd (cc is)
 answered_by_slots z slots migration actor (Migrate call) is = absurd (cc is)
@@ -46,6 +48,7 @@ answered_by_slots z slots migration actor _ is = refl
 pub none_refused : (z : Sizes) (command : Command) (slots : MemorySlots) → change_at_once z command slots ≡ None → change_refusal z command slots ≡ None
 none_refused z (Access gfn word op) slots works = refl
 none_refused z (ChangeHost page change) slots works = refl
+none_refused z (ChangeRun page change) slots works = refl
 none_refused z (GetLog id) slots works = refl
 none_refused z (ClearLog id first count words) slots works = refl
 none_refused z (Migrate call) slots works = refl

@@ -19,8 +19,8 @@ use Rattle.core_views.specs.Migrations.{is_migrating, is_paused, is_stopped}
 use Rattle.core_views.specs.Memory.{Memory, with_word, word_after_op}
 use Rattle.core_views.specs.Past.{FrameSet, Past, counted_anew, has_gfn, is_being_written, of_others, past_begun, written_frame}
 use Rattle.core_views.specs.Flat.{Facts, LineUnderWay, Flat, no_notes, Idle, Fresh, HasAccessed, HasLeft, HasChanged, HasArmed, HasRead}
-use Rattle.core_views.specs.Flat.{HasCalled, HasChangedHost, HasSetPause}
-pub use Rattle.core_views.specs.Stages.{after_next, first_logs, logs_left, stage_copied, stage_read, stage_taken, to_read_or_copy}
+use Rattle.core_views.specs.Flat.{HasCalled, HasSetPause}
+pub use Rattle.core_views.specs.Stages.{after_next, first_logs, logs_left, stage_changed, stage_copied, stage_read, stage_taken, to_read_or_copy}
 
 -- the memory after an access to a word of this host page
 abbrev pub touched : Option ℕ → ℕ → Op → Memory → Memory
@@ -95,7 +95,7 @@ under_after (BroughtIn page) f u = u
 under_after (Accessed gfn word op frame before) f u = record u { stage = HasAccessed frame before }
 under_after (Exited answer) f u = record u { stage = HasLeft answer }
 under_after (SlotChanged id slot) f u = record u { stage = HasChanged }
-under_after (HostChanged page entry) f u = record u { stage = HasChangedHost entry }
+under_after (HostChanged page entry) f u = record u { stage = stage_changed u.line.command f.host u.stage page entry }
 under_after (Armed id all) f u = record u { stage = HasArmed }
 under_after (Taken id) f u = record u { stage = stage_taken (log_read u.line.command) (logs_left f.slots u.line.command u.stage) id }
 under_after (Harvested id frames) f u = record u { stage = stage_read u.stage frames (facts_after (Harvested id frames) f) }

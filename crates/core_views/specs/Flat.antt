@@ -43,6 +43,7 @@ pub data Stage : Type 0 where
   -- It has yet to copy these guest frames, in this order, and has copied so many, and so many words of the next one.
   HasToCopy : (frames : List ℕ) (count word : ℕ) → Stage
   HasChangedHost : (entry : HostEntry) → Stage  -- its change of a host page took effect: this is the page's entry since
+  HasToSet : (page left level : ℕ) → Stage  -- it has yet to set so many pages, from this one on, to this level
 
 -- what the line looked at, as it last did: the pause, the slots, and the entry of each host page
 pub record Notes : Type 0 where

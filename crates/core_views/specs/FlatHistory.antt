@@ -1,17 +1,14 @@
 -- The flat history of a trace: each line runs alone, in file order.
 use Rattle.std.specs.Prelude.{ℕ, List, [], ◌∷◌, ◌++◌, Bool, true, false, Option, Some, None, if◌then◌else◌}
 use Rattle.core_views.specs.declared.answer.Answer.{Answer}
-use Rattle.core_views.specs.declared.answer.Answer.TheVariants.{Reached, Mmio, HostFault, Paused, Done, Moved, Bits, Refused}
-use Rattle.core_views.specs.declared.answer.Refusal.TheVariants.{IsHuge, NoFrame}
+use Rattle.core_views.specs.declared.answer.Answer.TheVariants.{Reached, Mmio, HostFault, Paused, Done, Bits}
 use Rattle.core_views.specs.declared.event.Event.{Event}
 use Rattle.core_views.specs.declared.event.EventKind.{EventKind}
 use Rattle.core_views.specs.declared.event.EventKind.TheVariants.{Begun, LookedAtPause, LookedAtSlots, LookedAtHost, BroughtIn, Accessed, Exited, SlotChanged}
-use Rattle.core_views.specs.declared.event.EventKind.TheVariants.{HostChanged, Armed, Taken, Harvested, Shown}
+use Rattle.core_views.specs.declared.event.EventKind.TheVariants.{Armed, Taken, Harvested, Shown}
 use Rattle.core_views.specs.Migrations.{is_paused}
 use Rattle.core_views.specs.declared.trace.Command.{Command}
-use Rattle.core_views.specs.declared.trace.Command.TheVariants.{Access, ChangeHost, ClearLog, GetLog, Migrate, SetLog}
-use Rattle.core_views.specs.declared.trace.HostChange.{HostChange}
-use Rattle.core_views.specs.declared.trace.HostChange.TheVariants.{Move, Evict, Protect, Allow}
+use Rattle.core_views.specs.declared.trace.Command.TheVariants.{Access, ChangeHost, ChangeRun, ClearLog, GetLog, Migrate, SetLog}
 use Rattle.core_views.specs.declared.sizes.Sizes.{Sizes}
 use Rattle.core_views.specs.Sizes.{sizes_of}
 use Rattle.core_views.specs.declared.trace.Line.{Line}
@@ -19,15 +16,18 @@ use Rattle.core_views.specs.declared.trace.Op.{Op}
 use Rattle.core_views.specs.declared.memory_slot.MemorySlot.{MemorySlot}
 use Rattle.core_views.specs.declared.trace.Trace.{Trace}
 use Rattle.core_views.specs.Host.{is_denied, is_huge}
-use Rattle.core_views.specs.HostChanges.{host_answer, is_own, lowest_free}
+use Rattle.core_views.specs.HostChanges.{host_answer, is_own}
+use Rattle.core_views.specs.HostRuns.{level_set, owns_run, run_count, run_first, run_refusal}
 use Rattle.core_views.specs.Slots.{page_behind}
 use Rattle.core_views.specs.SlotSets.{flat_slots}
 use Rattle.core_views.specs.Flat.{Facts, Stage, Idle, Fresh, HasAccessed, HasLeft, HasChanged, HasArmed, HasTaken, HasRead, HasChangedHost, first_facts}
-use Rattle.core_views.specs.Flat.{HasCalled, HasSetPause, HasTakenNext, HasToCopy, HasToRead}
+use Rattle.core_views.specs.Flat.{HasCalled, HasSetPause, HasTakenNext, HasToCopy, HasToRead, HasToSet}
 use Rattle.core_views.specs.LogCommands.{asked_frames, bits_for, is_all_set, takes_out}
 use Rattle.core_views.specs.Events.{facts_after_all}
 use Rattle.core_views.specs.Lawful.{answer_at_once, slot_change, slot_read}
 pub use Rattle.core_views.specs.FlatMigrations.{by, answers, copying_page, page_copied, words_copied, copying}
+pub use Rattle.core_views.specs.FlatRuns.{changing_host, moving, unless_huge}
+pub use Rattle.core_views.specs.FlatRuns.{looking_around, looking_at_run, looking_on, setting_kind, setting_run, unless_refused}
 pub use Rattle.core_views.specs.FlatMigrations.{dirty_read, reading_logs, reading_next, stopping, migrating}
 
 -- An access brings its page in that isn't present.
@@ -72,28 +72,14 @@ reading z line command id f =
     let frames : List ℕ = asked_frames f.pending command (slot_read f.slots command) in
     by line (harvest (takes_out z.mode command) id frames) ∷ answers line (Bits (bits_for command (slot_read f.slots command) frames))
 
--- A move gives the page the lowest frame that no page names, and is refused where there is none.
-abbrev pub moving : Line → ℕ → Facts → Option ℕ → List Event
-moving line page f None = by line (Exited (Refused NoFrame)) ∷ answers line (Refused NoFrame)
-moving line page f (Some frame) = by line (HostChanged page (record (f.host page) { frame = frame })) ∷ answers line (Moved frame)
-
--- A line that changes a host page makes this change, and is done.
-abbrev pub changing_host : Sizes → Line → ℕ → HostChange → Facts → List Event
-changing_host z line page Move f = moving line page f (lowest_free z f.host)
-changing_host z line page Evict f = by line (HostChanged page (record (f.host page) { present = false })) ∷ answers line Done
-changing_host z line page Protect f = by line (HostChanged page (record (f.host page) { writable = false })) ∷ answers line Done
-changing_host z line page Allow f = by line (HostChanged page (record (f.host page) { writable = true })) ∷ answers line Done
-
--- But a page that the host maps with others, as one large page, stays as it is.
-abbrev pub unless_huge : Line → Bool → List Event → List Event
-unless_huge line true rest = by line (Exited (Refused IsHuge)) ∷ answers line (Refused IsHuge)
-unless_huge line false rest = rest
-
 -- what a line does that has something to do
 abbrev pub working : Sizes → Line → Command → Facts → List Event
 working z line (Access gfn word op) f =
     unless_paused line (is_paused f.migration) (accessing line gfn word op f (page_behind (flat_slots f.slots) gfn op))
 working z line (ChangeHost page change) f = unless_huge line (is_huge (f.host page)) (changing_host z line page change f)
+working z line (ChangeRun page change) f =
+    unless_refused line (run_refusal f.host page change)
+    (setting_run line (run_first change page (f.host page)) (run_count change (f.host page)) (level_set change) f)
 working z line (GetLog id) f = by line (Taken id) ∷ reading z line (GetLog id) id f
 working z line (ClearLog id first count words) f = by line (Taken id) ∷ reading z line (ClearLog id first count words) id f
 working z line (Migrate call) f = migrating z line call f
@@ -123,6 +109,7 @@ rest_of z line (HasToRead ids) f = reading_logs z line line.command ids f
 rest_of z line (HasTakenNext id ids) f = reading_next z line line.command id ids f
 rest_of z line (HasToCopy frames count word) f = copying z line line.command frames count word f
 rest_of z line (HasChangedHost entry) f = answers line (host_answer line.command entry)
+rest_of z line (HasToSet page left level) f = setting_run line page left level f
 
 -- what a line looks at before it does anything: an access at the pause, at the slots, and at the host page that they give it; a host line at its page,
 -- where it is the actor's own
@@ -133,6 +120,7 @@ looks_behind line (Some page) = by line (LookedAtHost page) ∷ []
 abbrev pub looks : Sizes → Line → Command → Facts → List Event
 looks z line (Access gfn word op) f = by line LookedAtPause ∷ by line LookedAtSlots ∷ looks_behind line (page_behind (flat_slots f.slots) gfn op)
 looks z line (ChangeHost page change) f = if is_own z line.actor page then by line (LookedAtHost page) ∷ [] else []
+looks z line (ChangeRun page change) f = if owns_run z line.actor page change then looking_at_run line page change f.host else []
 looks z line _ f = []
 
 -- the whole line, alone

@@ -3,7 +3,7 @@ use Rattle.std.specs.Prelude.{◌≡◌, ◌⊎◌, ℕ, Bool, List, [], ◌∷�
 use Rattle.core_views.specs.declared.actor.Actor.{Actor}
 use Rattle.core_views.specs.declared.answer.Answer.{Answer}
 use Rattle.core_views.specs.declared.answer.Answer.TheVariants.{Reached, Mmio, HostFault, Starved, Paused, Done, Bits, Refused}
-use Rattle.core_views.specs.declared.answer.Refusal.TheVariants.{IsHuge, NoFrame}
+use Rattle.core_views.specs.declared.answer.Refusal.TheVariants.{IsHuge, NotAligned, NoFrame}
 use Rattle.core_views.specs.declared.event.Event.{Event}
 use Rattle.core_views.specs.declared.event.EventKind.{EventKind}
 use Rattle.core_views.specs.declared.event.EventKind.TheVariants.{Begun, LookedAtPause, LookedAtSlots, LookedAtHost, BroughtIn, Accessed, Exited, SlotChanged}
@@ -12,7 +12,7 @@ use Rattle.core_views.specs.declared.event.EventKind.TheVariants.{GuestStopped, 
 use Rattle.core_views.specs.declared.trace.MigrationCall.TheVariants.{Start, Finish, Resume}
 use Rattle.core_views.specs.Migrations.{is_stopped}
 use Rattle.core_views.specs.declared.trace.Command.{Command}
-use Rattle.core_views.specs.declared.trace.Command.TheVariants.{Access, ChangeHost, DeleteSlot, Migrate, SetLog, SetSlot}
+use Rattle.core_views.specs.declared.trace.Command.TheVariants.{Access, ChangeHost, ChangeRun, DeleteSlot, Migrate, SetLog, SetSlot}
 use Rattle.core_views.specs.declared.trace.HostChange.{HostChange}
 use Rattle.core_views.specs.declared.trace.HostChange.TheVariants.{Move}
 use Rattle.core_views.specs.declared.host.HostEntry.{HostEntry}
@@ -27,10 +27,11 @@ use Rattle.core_views.specs.HostChanges.{Agree, Changes, host_answer}
 use Rattle.core_views.specs.Names.{named_frame}
 use Rattle.core_views.specs.Past.{Past}
 use Rattle.core_views.specs.Flat.{Facts, Notes, LineUnderWay, Flat, Stage, Idle, Fresh, HasAccessed, HasLeft, HasChanged, HasArmed, HasTaken, HasRead}
-use Rattle.core_views.specs.Flat.{HasCalled, HasChangedHost, HasSetPause, HasTakenNext, HasToCopy, HasToRead}
+use Rattle.core_views.specs.Flat.{HasCalled, HasChangedHost, HasSetPause, HasTakenNext, HasToCopy, HasToRead, HasToSet}
 use Rattle.core_views.specs.Events.{after}
 pub use Rattle.core_views.specs.Harvests.{IsHarvest, MayRead, slot_at, slot_read}
 pub use Rattle.core_views.specs.Seen.{SawAbsent, SawForbidden, SawHuge, SawNoPage, SawPage, SawSmall}
+pub use Rattle.core_views.specs.SeenRuns.{MaySetNext, MaySetRun, SawHugeOne, SawRun, SawUnaligned}
 pub use Rattle.core_views.specs.SlotCommands.{slot_change}
 pub use Rattle.core_views.specs.AtOnce.{answer_unbarred, answer_at_once, HasWork}
 pub use Rattle.core_views.specs.Copies.{CopiesNext, MayHarvest, MayReadNext, copied_answer}
@@ -72,6 +73,8 @@ MayLeave z f actor (SetSlot id slot) notes Starved = HasWork z f actor (SetSlot 
 MayLeave z f actor (DeleteSlot id) notes Starved = HasWork z f actor (DeleteSlot id)
 MayLeave z f actor (SetLog id on) notes Starved = HasWork z f actor (SetLog id on)
 MayLeave z f actor (ChangeHost page change) notes (Refused IsHuge) = HasWork z f actor (ChangeHost page change) × SawHuge notes page
+MayLeave z f actor (ChangeRun page change) notes (Refused IsHuge) = HasWork z f actor (ChangeRun page change) × SawHugeOne notes page change
+MayLeave z f actor (ChangeRun page change) notes (Refused NotAligned) = HasWork z f actor (ChangeRun page change) × SawUnaligned notes page change
 MayLeave z f actor (ChangeHost page Move) notes (Refused NoFrame) = HasWork z f actor (ChangeHost page Move) × SawSmall notes page
 MayLeave _ _ _ _ _ _ = ⊥
 
@@ -84,6 +87,7 @@ Tells z f actor command HasArmed answer = answer ≡ Done
 Tells z f actor command (HasTaken id) answer = ⊥
 Tells z f actor command (HasRead frames) answer = answer ≡ Bits (bits_for command (slot_read f.slots command) frames)
 Tells z f actor command (HasChangedHost entry) answer = answer ≡ host_answer command entry
+Tells z f actor command (HasToSet page left level) answer = (left ≡ 0) × (answer ≡ Done)
 Tells z f actor command HasCalled answer = answer ≡ Done
 Tells z f actor command HasSetPause answer = ⊥
 Tells z f actor command (HasToRead ids) answer = ⊥
@@ -116,7 +120,9 @@ IsAllowed z f past actor u (Taken id) =
 IsAllowed z f past actor u (Harvested id frames) =
     MayRead z f past u.line.command u.stage id frames true ⊎ MayHarvest f past u.line.command u.stage id frames
 IsAllowed z f past actor u (Shown id frames) = MayRead z f past u.line.command u.stage id frames false
-IsAllowed z f past actor u (HostChanged page entry) = (u.stage ≡ Fresh) × MayChangeHost z f actor u.line.command u.notes page entry
+IsAllowed z f past actor u (HostChanged page entry) =
+    ((u.stage ≡ Fresh) × MayChangeHost z f actor u.line.command u.notes page entry)
+    ⊎ (((u.stage ≡ Fresh) × MaySetRun z f actor u.line.command u.notes page entry) ⊎ MaySetNext f u.line.command u.stage page entry)
 IsAllowed z f past actor u MigrationStarted = (u.stage ≡ Fresh) × HasWork z f actor u.line.command × (u.line.command ≡ Migrate Start)
 IsAllowed z f past actor u PauseSet = (u.stage ≡ Fresh) × HasWork z f actor u.line.command × (u.line.command ≡ Migrate Finish)
 IsAllowed z f past actor u GuestStopped = u.stage ≡ HasSetPause

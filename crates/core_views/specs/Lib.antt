@@ -8,6 +8,7 @@ pub mod SlotCommands
 pub mod Places
 pub mod Host
 pub mod HostChanges
+pub mod HostRuns
 pub mod Memory
 pub mod Names
 pub mod Past
@@ -15,6 +16,7 @@ pub mod LogCommands
 pub mod Migrations
 pub mod Flat
 pub mod Seen
+pub mod SeenRuns
 pub mod Harvests
 pub mod Stages
 pub mod Events
@@ -24,6 +26,7 @@ pub mod Lawful
 pub mod Text
 pub mod Whole
 pub mod FlatMigrations
+pub mod FlatRuns
 pub mod FlatHistory
 pub mod Alone
 pub mod Need

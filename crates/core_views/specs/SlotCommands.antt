@@ -9,7 +9,7 @@ use Rattle.core_views.specs.declared.memory_slot.MemorySlot.{MemorySlot}
 use Rattle.core_views.specs.declared.sizes.Sizes.{Sizes}
 use Rattle.core_views.specs.declared.trace.Command.{Command}
 use Rattle.core_views.specs.declared.trace.Slot.{Slot}
-use Rattle.core_views.specs.declared.trace.Command.TheVariants.{Access, ChangeHost, ClearLog, DeleteSlot, GetLog, Migrate, SetLog, SetSlot}
+use Rattle.core_views.specs.declared.trace.Command.TheVariants.{Access, ChangeHost, ChangeRun, ClearLog, DeleteSlot, GetLog, Migrate, SetLog, SetSlot}
 use Rattle.core_views.specs.Refusals.{delete_refusal, is_logged, log_refusal, set_refusal}
 use Rattle.core_views.specs.Slots.{is_some_and, slot_with_id}
 use Rattle.core_views.specs.SlotSets.{MemorySlots, changed_slots, flat_slots, slot_of_id}
@@ -23,6 +23,7 @@ HasPages _ = Unit {0}
 abbrev pub changes_slot : Command → Bool
 changes_slot (Access gfn word op) = false
 changes_slot (ChangeHost page change) = false
+changes_slot (ChangeRun page change) = false
 changes_slot (GetLog id) = false
 changes_slot (ClearLog id first count words) = false
 changes_slot (Migrate call) = false
@@ -33,6 +34,7 @@ changes_slot _ = true
 abbrev pub slot_change : MemorySlots → Command → Option (ℕ × Option MemorySlot)
 slot_change slots (Access gfn word op) = None
 slot_change slots (ChangeHost page change) = None
+slot_change slots (ChangeRun page change) = None
 slot_change slots (SetSlot id slot) = Some (id, Some (record { slot = slot; logged = is_logged id slots }))
 slot_change slots (DeleteSlot id) = Some (id, None)
 slot_change slots (SetLog id on) = Some (id, option_map (λ was. record { slot = was.slot; logged = on }) (slot_of_id id slots))
@@ -73,6 +75,7 @@ slot_armed slots _ = None
 abbrev pub change_refusal : Sizes → Command → MemorySlots → Option Refusal
 change_refusal z (Access gfn word op) slots = None
 change_refusal z (ChangeHost page change) slots = None
+change_refusal z (ChangeRun page change) slots = None
 change_refusal z (SetSlot id slot) slots = set_refusal z.pages id slot slots
 change_refusal z (DeleteSlot id) slots = delete_refusal id slots
 change_refusal z (SetLog id on) slots = log_refusal on id slots
@@ -97,6 +100,7 @@ at_once None same = if same then Some None else None
 abbrev pub change_at_once : Sizes → Command → MemorySlots → Option (Option Refusal)
 change_at_once z (Access gfn word op) slots = None
 change_at_once z (ChangeHost page change) slots = None
+change_at_once z (ChangeRun page change) slots = None
 change_at_once z (GetLog id) slots = None
 change_at_once z (ClearLog id first count words) slots = None
 change_at_once z (Migrate call) slots = None

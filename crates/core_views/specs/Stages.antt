@@ -1,13 +1,27 @@
--- How far a line of a migration has come: which logs it has yet to read, and what it has yet to copy.
-use Rattle.std.specs.Prelude.{ℕ, ◌+◌, Bool, true, false, List, [], ◌∷◌, Option, Some, None}
+-- How far a line has come: one of a migration, which logs it has yet to read, and what it has yet to copy; and one of a host page, which pages it has yet to set.
+use Rattle.std.specs.Prelude.{ℕ, zero, suc, ◌+◌, Bool, true, false, List, [], ◌∷◌, Option, Some, None}
 use Rattle.core_views.specs.declared.trace.Command.{Command}
-use Rattle.core_views.specs.declared.trace.Command.TheVariants.{Migrate}
+use Rattle.core_views.specs.declared.trace.Command.TheVariants.{ChangeRun, Migrate}
 use Rattle.core_views.specs.declared.trace.MigrationCall.TheVariants.{Round}
 use Rattle.std.specs.Map.{keys_of}
 use Rattle.core_views.specs.SlotSets.{MemorySlots}
 use Rattle.core_views.specs.Migrations.{frames_to_copy}
 use Rattle.core_views.specs.Flat.{Facts, Fresh, HasTaken, HasRead}
-use Rattle.core_views.specs.Flat.{HasTakenNext, HasToCopy, HasToRead, Stage}
+use Rattle.core_views.specs.Flat.{HasChangedHost, HasTakenNext, HasToCopy, HasToRead, HasToSet, Stage}
+use Rattle.core_views.specs.declared.host.HostEntry.{HostEntry}
+use Rattle.core_views.specs.Host.{HostMap}
+use Rattle.core_views.specs.HostRuns.{level_set, run_count}
+
+-- the stage of a line that has set a page of a run, of so many that it has to set from this one on
+abbrev pub set_one : ℕ → ℕ → ℕ → Stage
+set_one page zero level = HasToSet page zero level
+set_one page (suc left) level = HasToSet (page + 1) left level
+
+-- the stage of a line that has changed a host page, which has this entry since: its only one, or one of a run, which the host mapped so before
+abbrev pub stage_changed : Command → HostMap → Stage → ℕ → HostEntry → Stage
+stage_changed command host (HasToSet next left level) page entry = set_one next left level
+stage_changed (ChangeRun at change) host stage page entry = set_one page (run_count change (host at)) (level_set change)
+stage_changed _ host stage page entry = HasChangedHost entry
 
 -- the slots whose logs a line of a migration has yet to read, at its begin; and at each stage
 abbrev pub first_logs : MemorySlots → Command → List ℕ

@@ -41,6 +41,6 @@ pub use topics::{
     OwnedPage, PageRun, SlotSearch, Stay, TableWalk, Topics,
 };
 pub use trace::{
-    Command, Header, HostChange, Item, Items, Line, Lines, MigrationCall, Op, Slot, Trace, Until,
-    Words,
+    Command, Header, HostChange, Item, Items, Line, Lines, MigrationCall, Op, RunChange, Slot,
+    Trace, Until, Words,
 };

@@ -36,6 +36,7 @@ impl Command {
         match self {
             Command::GetLog { id } | Command::ClearLog { id, .. } => Some(*id),
             Command::Access { .. } | Command::ChangeHost { .. } => None,
+            Command::ChangeRun { .. } => None,
             Command::SetSlot { .. } | Command::DeleteSlot { .. } | Command::SetLog { .. } => None,
             Command::Migrate { .. } => None,
         }

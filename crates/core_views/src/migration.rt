@@ -99,7 +99,8 @@ impl Command {
             Command::SetSlot { .. } | Command::DeleteSlot { .. } | Command::SetLog { .. } => true,
             Command::GetLog { .. } | Command::ClearLog { .. } => true,
             Command::Migrate { call } => *call == MigrationCall::Start,
-            Command::Access { .. } | Command::ChangeHost { .. } => false,
+            Command::Access { .. } => false,
+            Command::ChangeHost { .. } | Command::ChangeRun { .. } => false,
         }
     }
 }

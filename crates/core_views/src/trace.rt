@@ -89,6 +89,15 @@ pub enum HostChange {
     Allow,
 }
 
+/// How much a host thread maps as one of a run of its pages (mmu.rst, "Large pages").
+#[derive(Clone, Copy, PartialEq, Eq, Drop)]
+pub enum RunChange {
+    /// Maps the run that begins at the page as one large page of this level.
+    Huge(u8),
+    /// Maps each page of the large page that has this one by itself.
+    Small,
+}
+
 /// What a line does to the migration of the guest.
 #[derive(Clone, Copy, Debug, PartialEq, Eq, Drop)]
 pub enum MigrationCall {
@@ -125,6 +134,11 @@ pub enum Command {
     ChangeHost {
         page: u64,
         change: HostChange,
+    },
+    /// Changes how much the host maps as one, of the run at this page, which may be any number.
+    ChangeRun {
+        page: u64,
+        change: RunChange,
     },
     /// Gives the memory slot with this ID a dirty log, or takes its log away. The ID may be
     /// any number, here and below.
@@ -169,6 +183,10 @@ impl Clone for Command {
             },
             Command::DeleteSlot { id } => Command::DeleteSlot { id: *id },
             Command::ChangeHost { page, change } => Command::ChangeHost {
+                page: *page,
+                change: *change,
+            },
+            Command::ChangeRun { page, change } => Command::ChangeRun {
                 page: *page,
                 change: *change,
             },

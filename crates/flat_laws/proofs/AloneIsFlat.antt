@@ -16,7 +16,8 @@ use Rattle.core_views.specs.Alone.{without_looks, AreWithin, FallAsFlat, StandsA
 use Rattle.flat_laws.proofs.AloneSteps.{AllIdle, IsAt, step}
 use Rattle.flat_laws.proofs.Looks.{facts_without_looks, answers_without_looks, facts_behind}
 use Rattle.flat_laws.proofs.FlatShows.{flat_shows}
-use Rattle.flat_laws.proofs.LinesAsFlat.{IsAlone, whole_line}
+use Rattle.flat_laws.proofs.Exact.{IsAlone}
+use Rattle.flat_laws.proofs.LinesAsFlat.{whole_line}
 
 -- from this state the history shows what the flat one does, and leaves no line under way
 record Shows (z : Sizes) (lines : List Line) (f : Flat) (h : List Event) : Type 0 where
@@ -37,6 +38,7 @@ line_shows z line lines within rest answer f idle are further lawful falls =
         pause = λ paused noted. absurd (cc noted);
         slots = λ slots noted. absurd (cc noted);
         host = λ page entry noted. absurd (cc noted);
+        whole = λ page entry noted none. absurd (cc noted);
       };
     } in
     let ends = whole_line z line within rest answer are Fresh no_notes (after (by line (Begun line)) f) begun lawful.1 falls.1 in

@@ -8,7 +8,7 @@ use Rattle.core_views.specs.declared.event.EventKind.{EventKind}
 use Rattle.core_views.specs.declared.event.EventKind.TheVariants.{Begun, LookedAtPause, LookedAtSlots, LookedAtHost, BroughtIn, Accessed, Exited, SlotChanged}
 use Rattle.core_views.specs.declared.event.EventKind.TheVariants.{Armed}
 use Rattle.core_views.specs.declared.trace.Command.{Command}
-use Rattle.core_views.specs.declared.trace.Command.TheVariants.{Access, ChangeHost, ClearLog, GetLog, Migrate, SetLog}
+use Rattle.core_views.specs.declared.trace.Command.TheVariants.{Access, ChangeHost, ChangeRun, ClearLog, GetLog, Migrate, SetLog}
 use Rattle.core_views.specs.declared.sizes.Sizes.{Sizes}
 use Rattle.core_views.specs.declared.trace.Line.{Line}
 use Rattle.core_views.specs.declared.trace.Op.{Op}
@@ -34,6 +34,8 @@ use Rattle.flat_laws.proofs.Writes.{AreOfLines, all_of_lines}
 use Rattle.flat_laws.proofs.AloneSteps.{AllIdle, Closes, IsAt, allowed, answered, more, step}
 use Rattle.flat_laws.proofs.AloneReads.{read_or_answer}
 use Rattle.flat_laws.proofs.HostAlone.{host_closes, seen}
+use Rattle.flat_laws.proofs.RunsAlone.{run_closes}
+use Rattle.core_views.specs.HostRuns.{owns_run}
 use Rattle.flat_laws.proofs.MigrationsAlone.{caused_at, migrates_or_answers}
 
 -- An access looks at the pause, at the slots, and at the host page that they give it.
@@ -193,6 +195,7 @@ doing_closes z line (Access gfn word op) facts f is caused at =
     (unless_closes z line gfn word op facts page (is_paused facts.migration) _ refl is refl
     (step line.actor LookedAtSlots facts _ _ (step line.actor LookedAtPause facts _ f at))))
 doing_closes z line (ChangeHost page change) facts f is caused at = host_closes z line page change facts f (is_own z line.actor page) refl is at
+doing_closes z line (ChangeRun page change) facts f is caused at = run_closes z line page change facts f (owns_run z line.actor page change) refl is at
 doing_closes z line (GetLog id) facts f is caused at =
     read_or_answer z line (GetLog id) id facts f is refl refl (caused_at facts f at.facts_are caused) at
 doing_closes z line (ClearLog id first count words) facts f is caused at =

@@ -11,12 +11,13 @@ use Rattle.core_views.specs.declared.host.HostEntry.{HostEntry}
 use Rattle.core_views.specs.declared.migration.Migration.{Migration}
 use Rattle.core_views.specs.declared.sizes.Sizes.{Sizes}
 use Rattle.core_views.specs.declared.trace.Command.{Command}
-use Rattle.core_views.specs.declared.trace.Command.TheVariants.{Access, ChangeHost, ClearLog, DeleteSlot, GetLog, Migrate, SetLog, SetSlot}
+use Rattle.core_views.specs.declared.trace.Command.TheVariants.{Access, ChangeHost, ChangeRun, ClearLog, DeleteSlot, GetLog, Migrate, SetLog, SetSlot}
 use Rattle.core_views.specs.declared.trace.HostChange.TheVariants.{Move}
 use Rattle.core_views.specs.declared.trace.MigrationCall.{MigrationCall}
 use Rattle.core_views.specs.declared.trace.MigrationCall.TheVariants.{Start, Round, Finish, Resume}
-use Rattle.core_views.specs.Flat.{Facts, Fresh, HasAccessed, HasArmed, HasCalled, HasChanged, HasChangedHost, HasLeft, HasRead, HasToCopy, Stage}
+use Rattle.core_views.specs.Flat.{Facts, Fresh, HasAccessed, HasArmed, HasCalled, HasChanged, HasChangedHost, HasToSet, HasLeft, HasRead, HasToCopy, Stage}
 use Rattle.core_views.specs.HostChanges.{host_answer, host_refusal}
+use Rattle.core_views.specs.HostRuns.{run_at_once}
 use Rattle.core_views.specs.Lawful.{Tells, answer_at_once, answer_unbarred, copied_answer}
 use Rattle.core_views.specs.LogCommands.{read_refusal}
 use Rattle.core_views.specs.Migrations.{are_logged, call_answer, is_barred, is_migrating, has_no_slot, is_running, is_stopped, or_barred, round_answer}
@@ -64,6 +65,7 @@ called_none slots migration Resume = by (is_stopped migration)
 unbarred_none : (z : Sizes) (slots : MemorySlots) (migration : Migration) (actor : Actor) (command : Command)
     → OfNoSlot (has_no_slot slots) (answer_unbarred z slots migration actor command)
 unbarred_none z slots migration actor (ChangeHost page change) = refused_none (has_no_slot slots) (host_refusal z actor page)
+unbarred_none z slots migration actor (ChangeRun page change) = refused_none (has_no_slot slots) (run_at_once z actor page change)
 unbarred_none z slots migration actor (GetLog id) = refused_none (has_no_slot slots) (read_refusal (GetLog id) slots)
 unbarred_none z slots migration actor (ClearLog id first count words) = refused_none (has_no_slot slots) (read_refusal (ClearLog id first count words) slots)
 unbarred_none z slots migration actor (Migrate call) = called_none slots migration call
@@ -113,6 +115,7 @@ copies_told z f actor command HasChanged answer tells copies left = none_told _ 
 copies_told z f actor command HasArmed answer tells copies left = none_told _ _ tells copies refl
 copies_told z f actor command (HasRead frames) answer tells copies left = none_told _ _ tells copies refl
 copies_told z f actor command (HasChangedHost entry) answer tells copies left = none_told _ _ tells copies (host_none command entry)
+copies_told z f actor command (HasToSet page left_ level) answer tells copies left = none_told _ _ tells.1 copies refl
 copies_told z f actor command HasCalled answer tells copies left = none_told _ _ tells copies refl
 copies_told z f actor command Fresh answer tells copies left =
     let none = subst (OfNoSlot (has_no_slot f.slots)) tells (at_once_none z f.slots f.migration actor command) copies in

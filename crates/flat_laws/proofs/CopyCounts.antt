@@ -6,7 +6,7 @@ use Rattle.core_views.specs.declared.answer.Answer.TheVariants.{Copied}
 use Rattle.core_views.specs.declared.event.Event.{Event}
 use Rattle.core_views.specs.declared.event.EventKind.{EventKind}
 use Rattle.core_views.specs.declared.event.EventKind.TheVariants.{Begun, BroughtIn, Exited, GuestStopped, Harvested, LookedAtHost, LookedAtPause}
-use Rattle.core_views.specs.declared.event.EventKind.TheVariants.{LookedAtSlots, PauseSet, Taken, WordCopied}
+use Rattle.core_views.specs.declared.event.EventKind.TheVariants.{HostChanged, LookedAtSlots, PauseSet, Taken, WordCopied}
 use Rattle.core_views.specs.declared.sizes.Sizes.{Sizes}
 use Rattle.core_views.specs.declared.trace.Command.{Command}
 use Rattle.core_views.specs.declared.trace.Command.TheVariants.{Migrate}
@@ -24,6 +24,7 @@ use Rattle.flat_laws.specs.MigrationCounts.{BeginsNone, BeginsNot, CopiedTellsPa
 use Rattle.flat_laws.proofs.AloneIsLawful.{lawful_parts}
 use Rattle.flat_laws.proofs.CopiesTold.{CopiesNone, HasCopied, copies_told}
 use Rattle.flat_laws.proofs.ImageAnswers.{none_left}
+use Rattle.core_views.proofs.RunStages.{each_change}
 
 -- So many pages were copied, as the stage says: none before the line copies.
 abbrev Counts : Stage → ℕ → Type 0
@@ -79,6 +80,8 @@ counts_after z f past a actor u (WordCopied gfn page word value whole) n may non
     by : (b : Bool) → Counts (stage_copied b (HasToCopy (gfn ∷ may.frames) may.count word)) (grown b n)
     by true = ap (λ (x : ℕ). x + 1) at
     by false = at
+counts_after z f past a actor u (HostChanged page entry) n may none mine C =
+    each_change (λ s. Counts s n) (λ e. tt) (λ p l m. tt) u.line.command f.host u.stage page entry
 counts_after z f past a actor u _ n may none mine C = tt
 
 counts_then : (z : Sizes) (actor : Actor) (es : List Event) (f : Flat) (n total : ℕ) → IsLawful z f es → BeginsNone actor es

@@ -5,7 +5,7 @@ use Rattle.core_views.specs.declared.event.Event.{Event}
 use Rattle.core_views.specs.declared.event.EventKind.TheVariants.{Begun, LookedAtHost, SlotChanged, Taken}
 use Rattle.core_views.specs.declared.answer.Answer.{Answer}
 use Rattle.core_views.specs.declared.trace.Command.{Command}
-use Rattle.core_views.specs.declared.trace.Command.TheVariants.{Access, ChangeHost, ClearLog, GetLog, Migrate, SetLog}
+use Rattle.core_views.specs.declared.trace.Command.TheVariants.{Access, ChangeHost, ChangeRun, ClearLog, GetLog, Migrate, SetLog}
 use Rattle.core_views.specs.declared.trace.HostChange.{HostChange}
 use Rattle.core_views.specs.declared.trace.HostChange.TheVariants.{Move, Evict, Protect, Allow}
 use Rattle.core_views.specs.declared.trace.Line.{Line}
@@ -23,6 +23,8 @@ use Rattle.core_views.specs.FlatHistory.{by, accessing, bringing, changing_host,
 use Rattle.core_views.specs.FlatHistory.{answers, arming, harvest, one_by_one, reading, unless_huge, unless_paused, working}
 use Rattle.core_views.specs.Migrations.{is_paused}
 use Rattle.flat_laws.proofs.MigrationsStand.{migration_shows}
+use Rattle.flat_laws.proofs.RunsStand.{run_shows}
+use Rattle.core_views.specs.HostRuns.{owns_run}
 use Rattle.core_views.specs.LogCommands.{takes_out}
 use Rattle.core_views.specs.Alone.{without_looks}
 use Rattle.core_views.proofs.HostLines.{owned_answer}
@@ -109,6 +111,7 @@ doing_shows : (z : Sizes) (line : Line) (command : Command) (f : Facts)
     → without_looks (looks z line command f ++ doing z line command f) ≡ doing z line command f
 doing_shows z line (Access gfn word op) f = unless_shows line gfn word op f (page_behind (flat_slots f.slots) gfn op) (is_paused f.migration)
 doing_shows z line (ChangeHost page change) f = owned_shows z line page change f (is_own z line.actor page)
+doing_shows z line (ChangeRun page change) f = run_shows z line page change f (owns_run z line.actor page change)
 doing_shows z line (GetLog id) f = read_shows z line (GetLog id) id f (answer_at_once z f.slots f.migration line.actor (GetLog id)) refl
 doing_shows z line (ClearLog id first count words) f =
     read_shows z line (ClearLog id first count words) id f (answer_at_once z f.slots f.migration line.actor (ClearLog id first count words)) refl

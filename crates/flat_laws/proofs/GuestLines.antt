@@ -9,10 +9,10 @@ use Rattle.core_views.specs.declared.event.EventKind.TheVariants.{GuestStopped, 
 use Rattle.core_views.specs.declared.sizes.Sizes.{Sizes}
 use Rattle.core_views.specs.declared.memory_slot.MemorySlot.{MemorySlot}
 use Rattle.core_views.specs.declared.trace.Command.{Command}
-use Rattle.core_views.specs.declared.trace.Command.TheVariants.{Access, ChangeHost, Migrate}
+use Rattle.core_views.specs.declared.trace.Command.TheVariants.{Access, ChangeHost, ChangeRun, Migrate}
 use Rattle.core_views.specs.declared.trace.MigrationCall.TheVariants.{Start, Finish, Resume}
 use Rattle.core_views.specs.Events.{under_after}
-use Rattle.core_views.specs.Flat.{Facts, Idle, Fresh, HasAccessed, HasChanged, HasChangedHost, HasLeft, HasSetPause, HasTaken, HasTakenNext, HasToCopy}
+use Rattle.core_views.specs.Flat.{Facts, Idle, Fresh, HasAccessed, HasChanged, HasChangedHost, HasToSet, HasLeft, HasSetPause, HasTaken, HasTakenNext, HasToCopy}
 use Rattle.core_views.specs.Flat.{LineUnderWay, Stage}
 use Rattle.core_views.specs.Lawful.{IsAllowed}
 use Rattle.core_views.specs.LogCommands.{log_read}
@@ -21,6 +21,7 @@ use Rattle.core_views.specs.SlotCommands.{slot_change}
 use Rattle.core_views.specs.SlotSets.{MemorySlots}
 use Rattle.flat_laws.specs.Images.{LeavesManaging, manages}
 use Rattle.flat_laws.proofs.StagesGoOn.{was_busy}
+use Rattle.core_views.proofs.RunStages.{each_change}
 
 -- A stage of such a line; no line is under way, or one of these.
 abbrev pub is_guests : Stage → Bool
@@ -28,6 +29,7 @@ is_guests Fresh = true
 is_guests (HasAccessed frame value) = true
 is_guests (HasLeft answer) = true
 is_guests (HasChangedHost entry) = true
+is_guests (HasToSet page left level) = true
 is_guests _ = false
 
 abbrev pub IsGuests : LineUnderWay → Type 0
@@ -56,11 +58,13 @@ changes_none : (slots : MemorySlots) (command : Command) (id : ℕ) (slot : Opti
     → slot_change slots command ≡ Some (id, slot) → ⊥
 changes_none slots (Access gfn word op) id slot none is = cc is
 changes_none slots (ChangeHost page change) id slot none is = cc is
+changes_none slots (ChangeRun page change) id slot none is = cc is
 changes_none slots _ id slot none is = cc none
 
 reads_none : (command : Command) (id : ℕ) → manages command ≡ false → log_read command ≡ Some id → ⊥
 reads_none (Access gfn word op) id none is = cc is
 reads_none (ChangeHost page change) id none is = cc is
+reads_none (ChangeRun page change) id none is = cc is
 reads_none _ id none is = cc none
 
 pub guests_tell : (z : Sizes) (f : Facts) (past : Past) (a : Actor) (v : LineUnderWay) (kind : EventKind) → IsAllowed z f past a v kind → IsGuests v
@@ -102,8 +106,9 @@ on z f past migrator a v (Accessed gfn word op frame before) of may leaves other
 on z f past migrator a v (Accessed gfn word op frame before) of may leaves other (inr G) = inr (G.0, refl)
 on z f past migrator a v (Exited answer) of may leaves other (inl idle) = let is = may.0 in absurd (cc (is, idle))
 on z f past migrator a v (Exited answer) of may leaves other (inr G) = inr (G.0, refl)
-on z f past migrator a v (HostChanged page entry) of may leaves other (inl idle) = let is = may.0 in absurd (cc (is, idle))
-on z f past migrator a v (HostChanged page entry) of may leaves other (inr G) = inr (G.0, refl)
+on z f past migrator a v (HostChanged page entry) of may leaves other (inl idle) = absurd (was_busy z f past a v (HostChanged page entry) tt may idle)
+on z f past migrator a v (HostChanged page entry) of may leaves other (inr G) =
+    inr (G.0, each_change (λ s. is_guests s ≡ true) (λ e. refl) (λ p l n. refl) v.line.command f.host v.stage page entry)
 on z f past migrator a v _ of may leaves other G = absurd of
 
 pub stays_guests : (z : Sizes) (f : Facts) (past : Past) (migrator a : Actor) (v : LineUnderWay) (kind : EventKind) → IsAllowed z f past a v kind

@@ -10,7 +10,7 @@ use Rattle.core_views.specs.declared.answer.Refusal.TheVariants.{Missing}
 use Rattle.core_views.specs.declared.sizes.Sizes.{Sizes}
 use Rattle.core_views.specs.declared.memory_slot.MemorySlot.{MemorySlot}
 use Rattle.core_views.specs.declared.trace.Command.{Command}
-use Rattle.core_views.specs.declared.trace.Command.TheVariants.{Access, ChangeHost, ClearLog, DeleteSlot, GetLog, Migrate, SetLog, SetSlot}
+use Rattle.core_views.specs.declared.trace.Command.TheVariants.{Access, ChangeHost, ChangeRun, ClearLog, DeleteSlot, GetLog, Migrate, SetLog, SetSlot}
 use Rattle.core_views.specs.Flat.{Facts}
 use Rattle.core_views.specs.Harvests.{IsHarvest}
 use Rattle.core_views.specs.Lawful.{HasWork}
@@ -51,6 +51,7 @@ reads_there z f actor (ClearLog i first count words) id reads works =
     (by_slot f.slots i (slot_of_id i f.slots) refl (λ none. refused (clear_missing i first count words f.slots none) (unmapped _ (unbarred _ _ works).1)))
 reads_there z f actor (Access gfn word op) id reads works = absurd (cc reads)
 reads_there z f actor (ChangeHost page change) id reads works = absurd (cc reads)
+reads_there z f actor (ChangeRun page change) id reads works = absurd (cc reads)
 reads_there z f actor (SetSlot i slot) id reads works = absurd (cc reads)
 reads_there z f actor (DeleteSlot i) id reads works = absurd (cc reads)
 reads_there z f actor (SetLog i on) id reads works = absurd (cc reads)

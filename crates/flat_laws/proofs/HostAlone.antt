@@ -1,5 +1,5 @@
 -- A host line that runs alone, from a state in which no line is under way, is lawful, and leaves none under way.
-use Rattle.std.proofs.Common.{◌≡◌, ℕ, [], ◌∷◌, ◌++◌, Bool, true, false, cond, refl}
+use Rattle.std.proofs.Common.{◌≡◌, inl, ℕ, [], ◌∷◌, ◌++◌, Bool, true, false, cond, refl}
 use Rattle.std.proofs.lemmas.Bool.{eq-eqb}
 use Rattle.std.specs.Prelude.{Option, Some, None}
 use Rattle.core_views.specs.declared.answer.Answer.TheVariants.{Refused}
@@ -52,7 +52,7 @@ changed_closes : (z : Sizes) (line : Line) (page : ℕ) (change : HostChange) (f
 changed_closes z line page change facts entry f own small is changed at =
     let event : EventKind = HostChanged page entry in
     more z (by line event) (answers line (host_answer (ChangeHost page change) entry)) f
-    (allowed z line.actor event facts _ f at (refl, rw is (may_change z line page change facts entry own small changed)))
+    (allowed z line.actor event facts _ f at (inl (refl, rw is (may_change z line page change facts entry own small changed))))
     (answered z line (host_answer (ChangeHost page change) entry) (facts_after event facts) _ _ (step line.actor event facts _ f at) refl (rw is refl))
 
 move_closes : (z : Sizes) (line : Line) (page : ℕ) (facts : Facts) (free : Option ℕ) (f : Flat) → lowest_free z facts.host ≡ free

@@ -12,12 +12,13 @@ use Rattle.core_views.specs.declared.migration.ImageWord.{ImageWord}
 use Rattle.core_views.specs.declared.migration.Migration.{Migration}
 use Rattle.core_views.specs.declared.sizes.Sizes.{Sizes}
 use Rattle.core_views.specs.declared.trace.Command.{Command}
-use Rattle.core_views.specs.declared.trace.Command.TheVariants.{Access, ChangeHost, ClearLog, DeleteSlot, GetLog, Migrate, SetLog, SetSlot}
+use Rattle.core_views.specs.declared.trace.Command.TheVariants.{Access, ChangeHost, ChangeRun, ClearLog, DeleteSlot, GetLog, Migrate, SetLog, SetSlot}
 use Rattle.core_views.specs.declared.trace.HostChange.TheVariants.{Move}
 use Rattle.core_views.specs.declared.trace.MigrationCall.{MigrationCall}
 use Rattle.core_views.specs.declared.trace.MigrationCall.TheVariants.{Start, Round, Finish, Resume}
-use Rattle.core_views.specs.Flat.{Facts, Fresh, HasAccessed, HasArmed, HasCalled, HasChanged, HasChangedHost, HasLeft, HasRead, HasToCopy, Notes, Stage}
+use Rattle.core_views.specs.Flat.{Facts, Fresh, HasAccessed, HasArmed, HasCalled, HasChanged, HasChangedHost, HasToSet, HasLeft, HasRead, HasToCopy, Notes, Stage}
 use Rattle.core_views.specs.HostChanges.{host_answer, host_refusal}
+use Rattle.core_views.specs.HostRuns.{run_at_once}
 use Rattle.core_views.specs.Lawful.{MayLeave, Tells, answer_at_once, answer_unbarred, copied_answer}
 use Rattle.core_views.specs.LogCommands.{read_refusal}
 use Rattle.core_views.specs.Migrations.{are_logged, call_answer, has_no_slot, image_words, is_barred, is_migrating, is_running}
@@ -36,6 +37,7 @@ pub none_left : (z : Sizes) (f : Facts) (actor : Actor) (command : Command) (not
 none_left z f actor (Access gfn word op) notes (Image words) may = absurd may
 none_left z f actor (ChangeHost page Move) notes (Image words) may = absurd may
 none_left z f actor (ChangeHost page change) notes (Image words) may = absurd may
+none_left z f actor (ChangeRun page change) notes (Image words) may = absurd may
 none_left z f actor (SetSlot id slot) notes (Image words) may = absurd may
 none_left z f actor (DeleteSlot id) notes (Image words) may = absurd may
 none_left z f actor (SetLog id on) notes (Image words) may = absurd may
@@ -45,6 +47,7 @@ none_left z f actor (Migrate call) notes (Image words) may = absurd may
 none_left z f actor (Access gfn word op) notes (Copied pages) may = absurd may
 none_left z f actor (ChangeHost page Move) notes (Copied pages) may = absurd may
 none_left z f actor (ChangeHost page change) notes (Copied pages) may = absurd may
+none_left z f actor (ChangeRun page change) notes (Copied pages) may = absurd may
 none_left z f actor (SetSlot id slot) notes (Copied pages) may = absurd may
 none_left z f actor (DeleteSlot id) notes (Copied pages) may = absurd may
 none_left z f actor (SetLog id on) notes (Copied pages) may = absurd may
@@ -97,6 +100,7 @@ none_called slots migration Resume = by (is_stopped migration)
 none_unbarred : (z : Sizes) (slots : MemorySlots) (migration : Migration) (actor : Actor) (command : Command)
     → IsNone (answer_unbarred z slots migration actor command)
 none_unbarred z slots migration actor (ChangeHost page change) = none_refused (host_refusal z actor page)
+none_unbarred z slots migration actor (ChangeRun page change) = none_refused (run_at_once z actor page change)
 none_unbarred z slots migration actor (GetLog id) = none_refused (read_refusal (GetLog id) slots)
 none_unbarred z slots migration actor (ClearLog id first count words) = none_refused (read_refusal (ClearLog id first count words) slots)
 none_unbarred z slots migration actor (Migrate call) = none_called slots migration call
@@ -155,6 +159,7 @@ image_told z f actor command HasChanged words tells left = none_told _ _ tells.0
 image_told z f actor command HasArmed words tells left = none_told _ _ tells refl refl
 image_told z f actor command (HasRead frames) words tells left = none_told _ _ tells refl refl
 image_told z f actor command (HasChangedHost entry) words tells left = none_told _ _ tells refl (host_none command entry)
+image_told z f actor command (HasToSet page left_ level) words tells left = none_told _ _ tells.1 refl refl
 image_told z f actor command HasCalled words tells left = none_told _ _ tells refl refl
 image_told z f actor command Fresh words tells left =
     let not_ : is_image (Image words) ≡ false = subst IsNone tells (none_at_once z f.slots f.migration actor command) in absurd (cc not_)

@@ -2,6 +2,11 @@ pub mod StagesGoOn
 pub mod AloneSteps
 pub mod AloneReads
 pub mod HostAlone
+pub mod RunsAgree
+pub mod RunsStand
+pub mod Exact
+pub mod NextRuns
+pub mod RunsAlone
 pub mod AloneIsLawful
 pub mod AloneIsWhole
 pub mod Looks

@@ -17,7 +17,7 @@ use Rattle.core_views.specs.Actors.{is_same}
 use Rattle.core_views.specs.Host.{HostNotes, with_entry}
 use Rattle.core_views.specs.SlotSets.{flat_slots}
 use Rattle.core_views.specs.Flat.{Facts, Notes, LineUnderWay, Flat, Stage, Fresh, HasAccessed, HasLeft, HasChanged, HasArmed, HasRead}
-use Rattle.core_views.specs.Flat.{HasCalled, HasChangedHost, HasSetPause, HasTakenNext, HasToCopy}
+use Rattle.core_views.specs.Flat.{HasCalled, HasSetPause, HasTakenNext, HasToCopy}
 use Rattle.core_views.specs.Migrations.{is_paused}
 use Rattle.std.specs.Map.{keys_of}
 use Rattle.core_views.specs.Events.{after, after_all, facts_after, facts_after_all, stage_copied, stage_read, stage_taken, to_read_or_copy, under_after}
@@ -25,18 +25,12 @@ use Rattle.core_views.specs.Lawful.{IsLawful, IsAllowed}
 use Rattle.core_views.specs.FlatHistory.{by, answers, rest_of}
 use Rattle.core_views.specs.Alone.{is_look, without_looks, IsInside, AreWithin, FallAsFlat, FallsAsFlat}
 use Rattle.flat_laws.proofs.AloneSteps.{AllIdle, IsAt, step, at_end}
-use Rattle.flat_laws.proofs.NextAlone.{AreExact, IsNext, access_is_next, arming_is_next, bringing_is_next, exit_is_next, harvest_is_next, told}
+use Rattle.flat_laws.proofs.Exact.{AreExact, IsAlone, IsNext, only_brings, under_way}
+use Rattle.flat_laws.proofs.NextAlone.{access_is_next, arming_is_next, bringing_is_next, exit_is_next, harvest_is_next, told}
 use Rattle.flat_laws.proofs.NextAlone.{host_change_is_next, showing_is_next, slot_change_is_next, taking_is_next}
 use Rattle.flat_laws.proofs.NextMigrations.{copying_is_next, pausing_is_next, resuming_is_next, starting_is_next, stopping_is_next}
 use Rattle.core_views.proofs.HostLines.{IsAlike, still_alike}
-
-abbrev pub under_way : Line → Stage → Notes → LineUnderWay
-under_way line stage notes = record { line = line; stage = stage; notes = notes }
-
--- The line is under way alone, and until it has done something its notes are so now.
-pub record IsAlone (line : Line) (stage : Stage) (notes : Notes) (f : Flat) : Type 0 where
-  pub at : IsAt line.actor f.facts (under_way line stage notes) f
-  pub exact : stage ≡ Fresh → AreExact f.facts notes
+use Rattle.core_views.proofs.RunStages.{each_change}
 
 -- From this stage the events end the line as the flat history does; `rest` comes behind its answer.
 pub record Ends (z : Sizes) (line : Line) (rest : List Event) (stage : Stage) (f : Flat) (es : List Event) : Type 0 where
@@ -80,14 +74,14 @@ shown_event z line rest es stage notes f kind is_shown is ends = record {
 }
 
 -- Where one more host page was looked at, each that was is so still.
-noted_host : (f : Facts) (page : ℕ) (host : HostNotes) (other : ℕ) (entry : HostEntry) → (host other ≡ Some entry → IsAlike entry (f.host other))
-    → with_entry page (f.host page) host other ≡ Some entry → IsAlike entry (f.host other)
-noted_host f page host other entry before noted = by_page (page == other) (eqb-true page other) noted
+noted_host : (R : HostEntry → HostEntry → Type 0) → ((e : HostEntry) → R e e) → (f : Facts) (page : ℕ) (host : HostNotes) (other : ℕ) (entry : HostEntry)
+    → (host other ≡ Some entry → R entry (f.host other)) → with_entry page (f.host page) host other ≡ Some entry → R entry (f.host other)
+noted_host R same_so f page host other entry before noted = by_page (page == other) (eqb-true page other) noted
   where
-    by_page : (b : Bool) → (b ≡ true → page ≡ other) → cond b (Some (f.host page)) (host other) ≡ Some entry → IsAlike entry (f.host other)
+    by_page : (b : Bool) → (b ≡ true → page ≡ other) → cond b (Some (f.host page)) (host other) ≡ Some entry → R entry (f.host other)
     by_page true same is =
         let now_ : entry ≡ f.host other = sym (same_Some (f.host page) entry is) ∙ ap f.host (same refl) in
-        (ap (λ (e : HostEntry). e.writable) now_, ap (λ (e : HostEntry). e.level) now_)
+        subst (λ (e : HostEntry). R e (f.host other)) (sym now_) (same_so (f.host other))
     by_page false same is = before is
 
 -- A line that has done something of a migration isn't fresh.
@@ -117,8 +111,8 @@ one_event z line rest es LookedAtPause within leads stage notes f is lawful fall
       exact = λ fresh. record {
         pause = λ paused noted. same_Some (is_paused f.facts.migration) paused noted;
         slots = (is.exact fresh).slots;
-        host =
-            (is.exact fresh).host;
+        host = (is.exact fresh).host;
+        whole = (is.exact fresh).whole;
       };
     }) lawful.1 falls.1 in
     record {
@@ -138,8 +132,8 @@ one_event z line rest es LookedAtSlots within leads stage notes f is lawful fall
       exact = λ fresh. record {
         pause = (is.exact fresh).pause;
         slots = λ slots noted. cc noted;
-        host =
-            (is.exact fresh).host;
+        host = (is.exact fresh).host;
+        whole = (is.exact fresh).whole;
       };
     }) lawful.1 falls.1 in
     record {
@@ -160,8 +154,10 @@ one_event z line rest es (LookedAtHost page) within leads stage notes f is lawfu
       exact = λ fresh. record {
         pause = (is.exact fresh).pause;
         slots = (is.exact fresh).slots;
-        host =
-            λ other entry noted. noted_host f.facts page notes.host other entry ((is.exact fresh).host other entry) noted;
+        host = λ other entry noted.
+            noted_host IsAlike (λ e. (refl, refl)) f.facts page notes.host other entry ((is.exact fresh).host other entry) noted;
+        whole = λ other entry noted none.
+            noted_host (λ x y. x ≡ y) (λ e. refl) f.facts page notes.host other entry (λ was. (is.exact fresh).whole other entry was none) noted;
       };
     }) lawful.1 falls.1 in
     record {
@@ -176,13 +172,17 @@ one_event z line rest es (LookedAtHost page) within leads stage notes f is lawfu
     }
 one_event z line rest es (BroughtIn page) within leads stage notes f is lawful falls =
     let kind : EventKind = BroughtIn page in
-    let exact_then : stage ≡ Fresh → AreExact (facts_after kind f.facts) notes = λ fresh. record {
+    let exact_then : stage ≡ Fresh → AreExact (facts_after kind f.facts) line.command notes = λ fresh. record {
       pause = (is.exact fresh).pause;
       slots = (is.exact fresh).slots;
       host = λ other entry noted.
           let was = (is.exact fresh).host other entry noted in
           let still = still_alike f.facts.host page other in
           (was.0 ∙ still.0, was.1 ∙ still.1);
+      whole = λ other entry noted none.
+          let may = allowed z line stage notes f kind is lawful.0 in
+          let does = only_brings f.facts line.command notes page may.1 in
+          absurd (cc (none, does));
     } in
     shown_event z line rest es stage notes f kind refl
     (bringing_is_next z f.facts f.past (under_way line stage notes) page is.exact (allowed z line stage notes f kind is lawful.0))
@@ -210,8 +210,11 @@ one_event z line rest es (HostChanged page entry) within leads stage notes f is 
     shown_event z line rest es stage notes f kind refl
     (host_change_is_next z f.facts f.past (under_way line stage notes) page entry (falls_at z line stage notes f kind is falls.0)
     (allowed z line stage notes f kind is lawful.0))
-    (leads (HasChangedHost entry) notes (after (by line kind) f)
-    (record { at = next_at line stage notes f kind is; exact = λ fresh. absurd (cc fresh) }) lawful.1 falls.1)
+    (leads _ notes (after (by line kind) f)
+    (record {
+      at = next_at line stage notes f kind is;
+      exact = λ fresh. absurd (each_change (λ s. s ≡ Fresh → ⊥) (λ e at. cc at) (λ p l n at. cc at) line.command f.facts.host stage page entry fresh);
+    }) lawful.1 falls.1)
 one_event z line rest es (Armed id all) within leads stage notes f is lawful falls =
     let kind : EventKind = Armed id all in
     shown_event z line rest es stage notes f kind refl

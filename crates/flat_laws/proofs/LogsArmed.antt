@@ -1,6 +1,6 @@
 -- Writes of each slot with a dirty log are logged, but where the manager's line has just given it the log.
 use Rattle.std.proofs.Common.{◌≡◌, ◌≢◌, ◌⊎◌, inl, inr, ◌==◌, ◌&&◌, ◌||◌, ℕ, Bool, true, false, not, List, [], ◌∷◌, refl, sym, ap, ◌∙◌, subst, cond}
-use Rattle.std.specs.Prelude.{Option, Some, None, is_some}
+use Rattle.std.specs.Prelude.{Option, Some, None, is_some, suc}
 use Rattle.std.specs.Option.{option_map}
 use Rattle.std.specs.List.{list_any}
 use Rattle.std.proofs.lemmas.Bool.{eq-eqb, ne_eqb, or_left, or_right}
@@ -10,13 +10,14 @@ use Rattle.core_views.specs.declared.answer.Answer.{Answer}
 use Rattle.core_views.specs.declared.answer.Refusal.{Refusal}
 use Rattle.core_views.specs.declared.event.EventKind.{EventKind}
 use Rattle.core_views.specs.declared.event.EventKind.TheVariants.{Answered, Armed, Begun, GuestStopped, Harvested, LookedAtHost, LookedAtPause}
-use Rattle.core_views.specs.declared.event.EventKind.TheVariants.{LookedAtSlots, Shown, SlotChanged, Taken, WordCopied}
+use Rattle.core_views.specs.declared.event.EventKind.TheVariants.{HostChanged, LookedAtSlots, Shown, SlotChanged, Taken, WordCopied}
 use Rattle.core_views.specs.declared.sizes.Sizes.{Sizes}
 use Rattle.core_views.specs.declared.memory_slot.MemorySlot.{MemorySlot}
 use Rattle.core_views.specs.declared.trace.Command.{Command}
-use Rattle.core_views.specs.declared.trace.Command.TheVariants.{Access, ChangeHost, ClearLog, DeleteSlot, GetLog, Migrate, SetLog, SetSlot}
+use Rattle.core_views.specs.declared.trace.Command.TheVariants.{Access, ChangeHost, ChangeRun, ClearLog, DeleteSlot, GetLog, Migrate, SetLog, SetSlot}
 use Rattle.core_views.specs.Events.{facts_after, is_armed, under_after}
-use Rattle.core_views.specs.Flat.{Facts, HasArmed, HasChanged, HasSetPause, HasTaken, HasTakenNext, HasToCopy, Fresh, Idle, LineUnderWay, Stage}
+use Rattle.core_views.specs.HostRuns.{level_set}
+use Rattle.core_views.specs.Flat.{Facts, HasArmed, HasChanged, HasSetPause, HasTaken, HasTakenNext, HasToCopy, HasToSet, Fresh, Idle, LineUnderWay, Stage}
 use Rattle.core_views.specs.Lawful.{HasWork, IsAllowed, Tells, may_look}
 use Rattle.core_views.specs.Events.{logs_left}
 use Rattle.core_views.specs.Migrations.{are_logged}
@@ -89,6 +90,9 @@ none_waits z f past actor u GuestStopped may is = none_at u.stage HasSetPause u.
 none_waits z f past actor u (WordCopied gfn page word value whole) may is =
     none_at u.stage (HasToCopy (gfn ∷ may.frames) may.count word) u.line.command may.left refl
 none_waits z f past actor u (Answered number answer) may is = none_told z f actor u.line.command u.stage answer may.1
+none_waits z f past actor u (HostChanged page entry) (inl may) is = none_at u.stage Fresh u.line.command may.0 refl
+none_waits z f past actor u (HostChanged page entry) (inr (inl may)) is = none_at u.stage Fresh u.line.command may.0 refl
+none_waits z f past actor u (HostChanged page entry) (inr (inr may)) is = none_at u.stage (HasToSet page (suc may.left) (level_set may.change)) u.line.command may.stands refl
 none_waits z f past actor u _ may is = none_at u.stage Fresh u.line.command may.0 refl
 
 -- ---- one event of the manager's
@@ -98,6 +102,7 @@ new_log : (z : Sizes) (f : Facts) (actor : Actor) (command : Command) (id : ℕ)
     → HasWork z f actor command → slot_change f.slots command ≡ Some (id, slot) → slot ≡ Some new_ → new_.logged ≡ true → log_begun command ≡ Some id
 new_log z f actor (Access gfn word op) id slot new_ works is here logged = absurd (cc is)
 new_log z f actor (ChangeHost page change) id slot new_ works is here logged = absurd (cc is)
+new_log z f actor (ChangeRun page change) id slot new_ works is here logged = absurd (cc is)
 new_log z f actor (GetLog i) id slot new_ works is here logged = absurd (cc is)
 new_log z f actor (ClearLog i first count words) id slot new_ works is here logged = absurd (cc is)
 new_log z f actor (Migrate call) id slot new_ works is here logged = absurd (cc is)

@@ -14,7 +14,7 @@ use Rattle.core_views.specs.declared.migration.Migration.TheVariants.{Unstarted,
 use Rattle.core_views.specs.declared.sizes.Sizes.{Sizes}
 use Rattle.core_views.specs.declared.memory_slot.MemorySlot.{MemorySlot}
 use Rattle.core_views.specs.declared.trace.Command.{Command}
-use Rattle.core_views.specs.declared.trace.Command.TheVariants.{Access, ChangeHost, ClearLog, GetLog, Migrate}
+use Rattle.core_views.specs.declared.trace.Command.TheVariants.{Access, ChangeHost, ChangeRun, ClearLog, GetLog, Migrate}
 use Rattle.core_views.specs.declared.trace.MigrationCall.TheVariants.{Finish, Start}
 use Rattle.core_views.specs.declared.trace.Op.{Op}
 use Rattle.core_views.specs.Events.{facts_after, past_after, under_after}
@@ -35,6 +35,7 @@ use Rattle.flat_laws.proofs.LogsArmed.{LogsAreArmed, all_are_armed, own_logs, un
 use Rattle.flat_laws.proofs.ManagerLines.{AreLeft, AtStage, Finishes, copied_at, harvested_at, reads_or_copies, taken_at}
 use Rattle.flat_laws.proofs.PendingArmed.{AreArmed, armed_after}
 use Rattle.flat_laws.proofs.SlotsCopied.{key_among}
+use Rattle.core_views.proofs.RunStages.{each_change}
 
 -- Each slot has a dirty log, and the image is what it is to be.
 pub record Migrates (z : Sizes) (f : Facts) : Type 0 where
@@ -62,6 +63,7 @@ all_armed z f past u M goes =
 changes_barred : (slots : MemorySlots) (command : Command) (change : ℕ × Option MemorySlot) → slot_change slots command ≡ Some change → is_barred command ≡ true
 changes_barred slots (Access gfn word op) change is = absurd (cc is)
 changes_barred slots (ChangeHost page host) change is = absurd (cc is)
+changes_barred slots (ChangeRun page host) change is = absurd (cc is)
 changes_barred slots (GetLog id) change is = absurd (cc is)
 changes_barred slots (ClearLog id first count words) change is = absurd (cc is)
 changes_barred slots (Migrate call) change is = absurd (cc is)
@@ -147,6 +149,8 @@ module _ (z : Sizes) (f : Facts) (past : Past) (actor : Actor) (u : LineUnderWay
   own_at PauseSet may = refl
   own_at GuestStopped may = reads_or_copies (facts_after GuestStopped f) past u.line.command (keys_of f.slots) stopped_left
   own_at (WordCopied gfn page word value whole) may = copied_at z f past actor u gfn page word value whole may M.at
+  own_at (HostChanged page entry) may =
+      each_change (AtStage (facts_after (HostChanged page entry) f) past u.line.command) (λ e. tt) (λ p l n. tt) u.line.command f.host u.stage page entry
   own_at _ may = tt
 
   pub own_managed : (kind : EventKind) → IsAllowed z f past actor u kind

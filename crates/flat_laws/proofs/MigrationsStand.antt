@@ -27,7 +27,7 @@ pub record Closed (line : Line) (es : List Event) : Type 0 where
   pub are_within : AreWithin line within
   pub events_are : es ≡ within ++ answers line answer
 
-closed_more : (line : Line) (kind : EventKind) (es : List Event) → IsInside kind → Closed line es → Closed line (by line kind ∷ es)
+pub closed_more : (line : Line) (kind : EventKind) (es : List Event) → IsInside kind → Closed line es → Closed line (by line kind ∷ es)
 closed_more line kind es inside C = record {
   within = by line kind ∷ C.within;
   answer = C.answer;

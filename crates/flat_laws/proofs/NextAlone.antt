@@ -4,19 +4,18 @@ use Rattle.std.proofs.Common.{◌≡◌, inl, inr, ℕ, List, ◌∷◌, ◌++�
 use Rattle.std.specs.Prelude.{Option, Some, None, nat_lt}
 use Rattle.core_views.specs.declared.answer.Answer.{Answer}
 use Rattle.core_views.specs.declared.answer.Answer.TheVariants.{Reached, Mmio, HostFault, Starved, Paused, Done, Moved, Bits, Refused}
-use Rattle.core_views.specs.declared.answer.Refusal.TheVariants.{IsHuge, NoFrame}
+use Rattle.core_views.specs.declared.answer.Refusal.TheVariants.{IsHuge, NotAligned, NoFrame}
 use Rattle.core_views.specs.declared.host.HostEntry.{HostEntry}
 use Rattle.core_views.specs.declared.event.Event.{Event}
-use Rattle.core_views.specs.declared.event.EventKind.{EventKind}
 use Rattle.core_views.specs.declared.event.EventKind.TheVariants.{Accessed, BroughtIn, Exited, HostChanged, SlotChanged, Armed, Taken, Harvested, Shown}
 use Rattle.core_views.specs.declared.trace.Command.{Command}
-use Rattle.core_views.specs.declared.trace.Command.TheVariants.{Access, ChangeHost, ClearLog, DeleteSlot, GetLog, Migrate, SetLog, SetSlot}
+use Rattle.core_views.specs.declared.trace.Command.TheVariants.{Access, ChangeHost, ChangeRun, ClearLog, DeleteSlot, GetLog, Migrate, SetLog, SetSlot}
 use Rattle.core_views.specs.declared.trace.HostChange.{HostChange}
 use Rattle.core_views.specs.declared.trace.HostChange.TheVariants.{Move, Evict, Protect, Allow}
 use Rattle.core_views.specs.declared.trace.Line.{Line}
 use Rattle.core_views.specs.declared.trace.Op.{Op}
 use Rattle.core_views.specs.declared.sizes.Sizes.{Sizes}
-use Rattle.core_views.specs.Host.{brought_in, is_denied, is_huge}
+use Rattle.core_views.specs.Host.{brought_in, is_denied}
 use Rattle.core_views.specs.HostChanges.{Changes, host_answer}
 use Rattle.core_views.specs.Alone.{FallsAsFlat}
 use Rattle.core_views.specs.declared.memory_slot.MemorySlot.{MemorySlot}
@@ -27,26 +26,17 @@ use Rattle.core_views.specs.LogCommands.{asked_frames, bits_for, log_read}
 use Rattle.core_views.specs.Names.{frame_at, frame_for}
 use Rattle.core_views.specs.Past.{Past}
 use Rattle.core_views.specs.Flat.{Facts, Notes, LineUnderWay, Stage, Idle, Fresh, HasAccessed, HasLeft, HasChanged, HasArmed, HasTaken, HasRead}
-use Rattle.core_views.specs.Flat.{HasCalled, HasChangedHost, HasSetPause, HasTakenNext, HasToCopy, HasToRead}
+use Rattle.core_views.specs.Flat.{HasCalled, HasChangedHost, HasSetPause, HasTakenNext, HasToCopy, HasToRead, HasToSet}
 use Rattle.core_views.specs.Migrations.{is_paused}
 use Rattle.flat_laws.proofs.NextMigrations.{left_next, next_stage, rest_read}
-use Rattle.core_views.specs.Events.{facts_after, logs_left, stage_read, stage_taken, under_after}
+use Rattle.core_views.specs.Events.{facts_after, logs_left, stage_changed, stage_read, stage_taken}
 use Rattle.core_views.specs.Lawful.{BringsIn, HasWork, IsAllowed, MayLeave, MayRead, SawForbidden, SawHuge, Tells, slot_at, slot_change, slot_read}
 use Rattle.core_views.specs.FlatHistory.{by, answers, accessing, arming, bringing, harvest, moving, reaching, reading, doing, doing_by, rest_of}
-use Rattle.core_views.specs.FlatHistory.{changing_host, copying, reading_logs, unless_huge, unless_paused}
-use Rattle.core_views.proofs.HostLines.{IsAlike, mapped}
+use Rattle.core_views.specs.FlatHistory.{changing_host, copying, reading_logs, setting_run, unless_huge, unless_paused}
+use Rattle.core_views.proofs.HostLines.{mapped}
 use Rattle.core_views.proofs.SlotChanges.{changes}
-
--- What the line noted is so now: the pause, the slots, and what the host allows and how much it maps as one. A page may have been brought in since by the
--- line itself.
-pub record AreExact (f : Facts) (notes : Notes) : Type 0 where
-  pub pause : (paused : Bool) → notes.paused ≡ Some paused → is_paused f.migration ≡ paused
-  pub slots : (slots : Slots) → notes.slots ≡ Some slots → slots ≡ flat_slots f.slots
-  pub host : (page : ℕ) (entry : HostEntry) → notes.host page ≡ Some entry → IsAlike entry (f.host page)
-
--- What is left of the line begins with this event.
-abbrev pub IsNext : Sizes → Facts → LineUnderWay → EventKind → Type 0
-IsNext z f u kind = rest_of z u.line u.stage f ≡ by u.line kind ∷ rest_of z u.line (under_after kind f u).stage (facts_after kind f)
+use Rattle.flat_laws.proofs.Exact.{AreExact, IsNext, size_noted}
+use Rattle.flat_laws.proofs.NextRuns.{left_huge, left_unaligned, setting_is_next, setting_on_is_next}
 
 -- An access: the word that it reaches, or its exit.
 
@@ -69,20 +59,20 @@ reached line gfn word op f (Some at) page frame before is named value_is =
     (ap (λ (p : ℕ). f.memory p word) (some_is at page is) ∙ value_is)
 
 -- an access goes on where the line saw no pause
-goes_past : (line : Line) (f : Facts) (notes : Notes) (rest : List Event) → AreExact f notes → notes.paused ≡ Some false
+goes_past : (line : Line) (f : Facts) (command : Command) (notes : Notes) (rest : List Event) → AreExact f command notes → notes.paused ≡ Some false
     → unless_paused line (is_paused f.migration) rest ≡ rest
-goes_past line f notes rest exact runs = ap (λ b. unless_paused line b rest) (exact.pause false runs)
+goes_past line f command notes rest exact runs = ap (λ b. unless_paused line b rest) (exact.pause false runs)
 
 pub access_is_next : (z : Sizes) (f : Facts) (past : Past) (u : LineUnderWay) (gfn word : ℕ) (op : Op) (frame before : ℕ)
-    → (u.stage ≡ Fresh → AreExact f u.notes)
+    → (u.stage ≡ Fresh → AreExact f u.line.command u.notes)
     → IsAllowed z f past u.line.actor u (Accessed gfn word op frame before) → IsNext z f u (Accessed gfn word op frame before)
 access_is_next z f past u gfn word op frame before exact may =
     rw (may.0) (rw (may.1)
-    (goes_past u.line f u.notes _ (exact may.0) may.2
+    (goes_past u.line f u.line.command u.notes _ (exact may.0) may.2
     ∙ reached u.line gfn word op f (page_behind (flat_slots f.slots) gfn op) may.3.page frame before may.3.behind may.3.named may.3.value_is))
 
 -- the page is brought in, and then reached as it is now
-brought : (z : Sizes) (line : Line) (command : Command) (f : Facts) (notes : Notes) (page : ℕ) → AreExact f notes → BringsIn f command notes page
+brought : (z : Sizes) (line : Line) (command : Command) (f : Facts) (notes : Notes) (page : ℕ) → AreExact f command notes → BringsIn f command notes page
     → doing z line command f ≡ by line (BroughtIn page) ∷ doing z line command (facts_after (BroughtIn page) f)
 brought z line (Access gfn word op) f notes page exact saw =
     let behind : page_behind (flat_slots f.slots) gfn op ≡ Some page =
@@ -91,7 +81,7 @@ brought z line (Access gfn word op) f notes page exact saw =
     let frame : ℕ = (f.host page).frame in
     let before : ℕ = f.memory page word in
     let named : frame_for op (then_.host page) ≡ Some frame = ap (frame_for op) (mapped page (brought_in (f.host page)) f.host) ∙ rw (saw.allows) refl in
-    goes_past line f notes _ exact saw.runs
+    goes_past line f (Access gfn word op) notes _ exact saw.runs
     ∙ (ap (accessing line gfn word op f) behind
     ∙ (ap (reaching line gfn word op f page) saw.allows
     ∙ (ap (λ (present : Bool). bringing line page present ++ (by line (Accessed gfn word op frame before) ∷ answers line (Reached frame before))) saw.absent
@@ -100,12 +90,12 @@ brought z line (Access gfn word op) f notes page exact saw =
     ∙ reached line gfn word op then_ (page_behind (flat_slots f.slots) gfn op) page frame before behind (ap (frame_at then_.host op) behind ∙ named) refl)))))
 brought z line _ f notes page exact may = absurd may
 
-pub bringing_is_next : (z : Sizes) (f : Facts) (past : Past) (u : LineUnderWay) (page : ℕ) → (u.stage ≡ Fresh → AreExact f u.notes)
+pub bringing_is_next : (z : Sizes) (f : Facts) (past : Past) (u : LineUnderWay) (page : ℕ) → (u.stage ≡ Fresh → AreExact f u.line.command u.notes)
     → IsAllowed z f past u.line.actor u (BroughtIn page) → IsNext z f u (BroughtIn page)
 bringing_is_next z f past u page exact may = rw (may.0) (brought z u.line u.line.command f u.notes page (exact may.0) may.1)
 
 -- the host page that the noted slots give is as it was noted, so the host forbids the access now
-forbidden : (line : Line) (gfn word : ℕ) (op : Op) (f : Facts) (notes : Notes) → AreExact f notes → SawForbidden notes gfn op
+forbidden : (line : Line) (gfn word : ℕ) (op : Op) (f : Facts) (notes : Notes) → AreExact f (Access gfn word op) notes → SawForbidden notes gfn op
     → accessing line gfn word op f (page_behind (flat_slots f.slots) gfn op) ≡ by line (Exited HostFault) ∷ answers line HostFault
 forbidden line gfn word op f notes exact saw =
     let behind : page_behind (flat_slots f.slots) gfn op ≡ Some saw.page =
@@ -114,29 +104,24 @@ forbidden line gfn word op f notes exact saw =
     subst (λ (b : Bool). (is_write op && not b) ≡ true) (exact.host saw.page saw.entry saw.looked).0 saw.forbids in
     ap (accessing line gfn word op f) behind ∙ ap (reaching line gfn word op f saw.page) denies
 
--- a host page is as much of a large one as it was noted
-size_noted : (f : Facts) (notes : Notes) (page : ℕ) (entry : HostEntry) (huge : Bool) → AreExact f notes → notes.host page ≡ Some entry
-    → is_huge entry ≡ huge → is_huge (f.host page) ≡ huge
-size_noted f notes page entry huge exact looked is = ap (nat_lt 1) (sym (exact.host page entry looked).1) ∙ is
-
 -- so a host line that noted its page as part of a large one is refused
-huge : (z : Sizes) (line : Line) (page : ℕ) (change : HostChange) (f : Facts) (notes : Notes) → AreExact f notes
+huge : (z : Sizes) (line : Line) (page : ℕ) (change : HostChange) (f : Facts) (notes : Notes) → AreExact f (ChangeHost page change) notes
     → HasWork z f line.actor (ChangeHost page change) → SawHuge notes page
     → doing z line (ChangeHost page change) f ≡ by line (Exited (Refused IsHuge)) ∷ answers line (Refused IsHuge)
 huge z line page change f notes exact works saw =
     ap (doing_by z line (ChangeHost page change) f) works
-    ∙ ap (λ b. unless_huge line b (changing_host z line page change f)) (size_noted f notes page saw.entry true exact saw.looked saw.huge)
+    ∙ ap (λ b. unless_huge line b (changing_host z line page change f)) (size_noted f (ChangeHost page change) notes page saw.entry true exact saw.looked saw.huge)
 
 -- a clause for each answer with which it may leave
-left : (z : Sizes) (line : Line) (command : Command) (f : Facts) (notes : Notes) (answer : Answer) → AreExact f notes → FallsAsFlat z f command (Exited answer)
+left : (z : Sizes) (line : Line) (command : Command) (f : Facts) (notes : Notes) (answer : Answer) → AreExact f command notes → FallsAsFlat z f command (Exited answer)
     → MayLeave z f line.actor command notes answer → doing z line command f ≡ by line (Exited answer) ∷ answers line answer
 left z line (Access gfn word op) f notes Paused exact fed may =
     ap (λ b. unless_paused line b (accessing line gfn word op f (page_behind (flat_slots f.slots) gfn op))) (exact.pause true may)
 left z line (Access gfn word op) f notes Mmio exact fed may =
-    goes_past line f notes _ exact may.runs
+    goes_past line f (Access gfn word op) notes _ exact may.runs
     ∙ ap (accessing line gfn word op f) (subst (λ (slots : Slots). page_behind slots gfn op ≡ None) (exact.slots may.slots may.noted) may.none)
 left z line (Access gfn word op) f notes HostFault exact fed may =
-    goes_past line f notes _ exact may.runs ∙ forbidden line gfn word op f notes exact may
+    goes_past line f (Access gfn word op) notes _ exact may.runs ∙ forbidden line gfn word op f notes exact may
 left z line command f notes Starved exact fed may = absurd (fed.0 refl)
 left z line (ChangeHost page Move) f notes (Refused IsHuge) exact fed may = huge z line page Move f notes exact may.0 may.1
 left z line (ChangeHost page Evict) f notes (Refused IsHuge) exact fed may = huge z line page Evict f notes exact may.0 may.1
@@ -144,14 +129,18 @@ left z line (ChangeHost page Protect) f notes (Refused IsHuge) exact fed may = h
 left z line (ChangeHost page Allow) f notes (Refused IsHuge) exact fed may = huge z line page Allow f notes exact may.0 may.1
 left z line (ChangeHost page Move) f notes (Refused NoFrame) exact fed may =
     ap (doing_by z line (ChangeHost page Move) f) may.0
-    ∙ (ap (λ b. unless_huge line b (changing_host z line page Move f)) (size_noted f notes page may.1.entry false exact may.1.looked may.1.small)
+    ∙ (ap (λ b. unless_huge line b (changing_host z line page Move f)) (size_noted f (ChangeHost page Move) notes page may.1.entry false exact may.1.looked may.1.small)
     ∙ ap (moving line page f) fed.1)
 left z line (ChangeHost page Evict) f notes _ exact fed may = absurd may
 left z line (ChangeHost page Protect) f notes _ exact fed may = absurd may
 left z line (ChangeHost page Allow) f notes _ exact fed may = absurd may
+left z line (ChangeRun page change) f notes (Refused IsHuge) exact fed may =
+    left_huge z line page change f (ChangeRun page change) notes exact may.0 may.1
+left z line (ChangeRun page change) f notes (Refused NotAligned) exact fed may =
+    left_unaligned z line page change f notes exact may.0 may.1
 left z line _ f notes _ exact fed may = absurd may
 
-pub exit_is_next : (z : Sizes) (f : Facts) (past : Past) (u : LineUnderWay) (answer : Answer) → (u.stage ≡ Fresh → AreExact f u.notes)
+pub exit_is_next : (z : Sizes) (f : Facts) (past : Past) (u : LineUnderWay) (answer : Answer) → (u.stage ≡ Fresh → AreExact f u.line.command u.notes)
     → FallsAsFlat z f u.line.command (Exited answer) → IsAllowed z f past u.line.actor u (Exited answer) → IsNext z f u (Exited answer)
 exit_is_next z f past u answer exact fed may = rw (may.0) (left z u.line u.line.command f u.notes answer (exact may.0) fed may.1)
 
@@ -181,6 +170,7 @@ taken z line (ClearLog i first count words) f id works is =
     ∙ ap (λ (n : ℕ). by line (Taken n) ∷ reading z line (ClearLog i first count words) n f) (some_is i id is)
 taken z line (Access gfn word op) f id works is = absurd (cc is)
 taken z line (ChangeHost page change) f id works is = absurd (cc is)
+taken z line (ChangeRun page change) f id works is = absurd (cc is)
 taken z line (SetSlot i slot) f id works is = absurd (cc is)
 taken z line (DeleteSlot i) f id works is = absurd (cc is)
 taken z line (SetLog i on) f id works is = absurd (cc is)
@@ -240,14 +230,20 @@ changed_host z line page Allow f entry falls is = ap (λ (e : HostEntry). by lin
 pub host_change_is_next : (z : Sizes) (f : Facts) (past : Past) (u : LineUnderWay) (page : ℕ) (entry : HostEntry)
     → FallsAsFlat z f u.line.command (HostChanged page entry)
     → IsAllowed z f past u.line.actor u (HostChanged page entry) → IsNext z f u (HostChanged page entry)
-host_change_is_next z f past u page entry falls may =
+host_change_is_next z f past u page entry falls (inl may) =
     let works = subst (λ (c : Command). HasWork z f u.line.actor c) may.1.asked may.1.works in
     let falls_so = subst (λ (c : Command). FallsAsFlat z f c (HostChanged page entry)) may.1.asked falls in
-    rw (may.0)
-    (subst (λ (c : Command). doing z u.line c f ≡ by u.line (HostChanged page entry) ∷ answers u.line (host_answer c entry)) (sym may.1.asked)
+    let stage_is : stage_changed u.line.command f.host u.stage page entry ≡ HasChangedHost entry =
+    ap (λ (s : Stage). stage_changed u.line.command f.host s page entry) may.0
+    ∙ ap (λ (c : Command). stage_changed c f.host Fresh page entry) may.1.asked in
+    ap (λ (s : Stage). rest_of z u.line s f) may.0
+    ∙ (subst (λ (c : Command). doing z u.line c f ≡ by u.line (HostChanged page entry) ∷ answers u.line (host_answer c entry)) (sym may.1.asked)
     (ap (doing_by z u.line (ChangeHost page may.1.change) f) works
     ∙ (ap (λ b. unless_huge u.line b (changing_host z u.line page may.1.change f)) (ap (nat_lt 1) (sym may.1.agrees.2) ∙ may.1.small)
-    ∙ changed_host z u.line page may.1.change f entry falls_so may.1.changes)))
+    ∙ changed_host z u.line page may.1.change f entry falls_so may.1.changes))
+    ∙ ap (λ (s : Stage). by u.line (HostChanged page entry) ∷ rest_of z u.line s (facts_after (HostChanged page entry) f)) (sym stage_is))
+host_change_is_next z f past u page entry falls (inr (inl may)) = setting_is_next z f u page entry may.0 may.1
+host_change_is_next z f past u page entry falls (inr (inr may)) = setting_on_is_next z f u page entry may
 
 -- The answer: what the line's stage tells, or what it is answered at once.
 
@@ -276,3 +272,5 @@ told z line (HasTakenNext id ids) f answer tells = absurd tells
 told z line (HasToCopy frames count word) f answer tells =
     ap (λ (xs : List ℕ). copying z line line.command xs count word f) tells.0 ∙ ap (answers line) (sym tells.1)
 told z line (HasChangedHost entry) f answer tells = ap (answers line) (sym tells)
+told z line (HasToSet page left level) f answer tells =
+    ap (λ (n : ℕ). setting_run line page n level f) tells.0 ∙ ap (answers line) (sym tells.1)

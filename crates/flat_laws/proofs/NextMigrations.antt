@@ -7,7 +7,7 @@ use Rattle.core_views.specs.declared.event.Event.{Event}
 use Rattle.core_views.specs.declared.event.EventKind.TheVariants.{Taken, GuestStopped, MigrationStarted, PauseSet, Resumed, WordCopied}
 use Rattle.core_views.specs.declared.sizes.Sizes.{Sizes}
 use Rattle.core_views.specs.declared.trace.Command.{Command}
-use Rattle.core_views.specs.declared.trace.Command.TheVariants.{Access, ChangeHost, ClearLog, DeleteSlot, GetLog, Migrate, SetLog, SetSlot}
+use Rattle.core_views.specs.declared.trace.Command.TheVariants.{Access, ChangeHost, ChangeRun, ClearLog, DeleteSlot, GetLog, Migrate, SetLog, SetSlot}
 use Rattle.core_views.specs.declared.trace.Line.{Line}
 use Rattle.core_views.specs.declared.trace.MigrationCall.TheVariants.{Start, Round, Finish, Resume}
 use Rattle.core_views.specs.Past.{Past}
@@ -37,6 +37,7 @@ first_next z line (Migrate Finish) f id ids is works left = absurd (cc left)
 first_next z line (Migrate Resume) f id ids is works left = absurd (cc left)
 first_next z line (Access gfn word op) f id ids is works left = absurd (cc left)
 first_next z line (ChangeHost page change) f id ids is works left = absurd (cc left)
+first_next z line (ChangeRun page change) f id ids is works left = absurd (cc left)
 first_next z line (SetSlot i slot) f id ids is works left = absurd (cc left)
 first_next z line (DeleteSlot i) f id ids is works left = absurd (cc left)
 first_next z line (SetLog i on) f id ids is works left = absurd (cc left)

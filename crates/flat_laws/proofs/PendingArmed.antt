@@ -12,7 +12,7 @@ use Rattle.core_views.specs.declared.answer.Refusal.{Refusal}
 use Rattle.core_views.specs.declared.sizes.Sizes.{Sizes}
 use Rattle.core_views.specs.declared.memory_slot.MemorySlot.{MemorySlot}
 use Rattle.core_views.specs.declared.trace.Command.{Command}
-use Rattle.core_views.specs.declared.trace.Command.TheVariants.{Access, ChangeHost, ClearLog, DeleteSlot, GetLog, Migrate, SetLog, SetSlot}
+use Rattle.core_views.specs.declared.trace.Command.TheVariants.{Access, ChangeHost, ChangeRun, ClearLog, DeleteSlot, GetLog, Migrate, SetLog, SetSlot}
 use Rattle.core_views.specs.declared.trace.Op.{Op}
 use Rattle.core_views.specs.Slots.{contains, is_some_and, is_write}
 use Rattle.core_views.specs.SlotCommands.{at_once, is_unchanged, refused_or_done, slot_change}
@@ -70,6 +70,7 @@ fits : (z : Sizes) (f : Facts) (actor : Actor) (command : Command) (id : ℕ) (s
     → slot_change f.slots command ≡ Some (id, slot) → FitsAt id slot f.slots
 fits z f actor (Access gfn word op) id slot apart works is = absurd (cc is)
 fits z f actor (ChangeHost page change) id slot apart works is = absurd (cc is)
+fits z f actor (ChangeRun page change) id slot apart works is = absurd (cc is)
 fits z f actor (GetLog i) id slot apart works is = absurd (cc is)
 fits z f actor (ClearLog i first count words) id slot apart works is = absurd (cc is)
 fits z f actor (Migrate call) id slot apart works is = absurd (cc is)

@@ -4,7 +4,7 @@ use Rattle.std.specs.Prelude.{Option, Some, None}
 use Rattle.core_views.specs.declared.actor.Actor.{Actor}
 use Rattle.core_views.specs.declared.event.EventKind.{EventKind}
 use Rattle.core_views.specs.declared.event.EventKind.TheVariants.{Begun, LookedAtPause, LookedAtSlots, LookedAtHost, BroughtIn}
-use Rattle.core_views.specs.declared.event.EventKind.TheVariants.{Taken, Harvested, Shown, Answered}
+use Rattle.core_views.specs.declared.event.EventKind.TheVariants.{HostChanged, Taken, Harvested, Shown, Answered}
 use Rattle.core_views.specs.declared.event.EventKind.TheVariants.{GuestStopped, WordCopied}
 use Rattle.core_views.specs.declared.sizes.Sizes.{Sizes}
 use Rattle.core_views.specs.SlotSets.{MemorySlots}
@@ -16,6 +16,7 @@ use Rattle.core_views.specs.Events.{facts_after, logs_left, stage_copied, stage_
 use Rattle.core_views.specs.Lawful.{IsAllowed, MayHarvest, MayRead, may_look}
 use Rattle.core_views.specs.LogCommands.{log_read}
 use Rattle.core_views.specs.Alone.{IsInside}
+use Rattle.core_views.proofs.RunStages.{each_change}
 
 -- ---- it leaves it so
 
@@ -51,6 +52,8 @@ is_busy z f past actor u (Harvested id frames) within may was idle = read_busy u
 is_busy z f past actor u GuestStopped within may was idle = left_busy _ _ idle
 is_busy z f past actor u (WordCopied gfn page word value whole) within may was idle =
     copies_busy whole u.stage (HasToCopy (gfn ∷ may.frames) may.count word) may.left (copied_busy whole gfn may.frames may.count word) idle
+is_busy z f past actor u (HostChanged page entry) within may was idle =
+    each_change (λ s. s ≡ Idle → ⊥) (λ e at. cc at) (λ p l n at. cc at) u.line.command f.host u.stage page entry idle
 is_busy z f past actor u _ within may was idle = cc idle
 
 -- ---- it comes at no other time
@@ -78,4 +81,7 @@ was_busy z f past actor u (Harvested id frames) within may idle = reads_busy z f
 was_busy z f past actor u (Shown id frames) within may idle = let is = may.begun in cc (is, idle)
 was_busy z f past actor u GuestStopped within may idle = cc (may, idle)
 was_busy z f past actor u (WordCopied gfn page word value whole) within may idle = let is = may.left in cc (is, idle)
+was_busy z f past actor u (HostChanged page entry) within (inl may) idle = let is = may.0 in cc (is, idle)
+was_busy z f past actor u (HostChanged page entry) within (inr (inl may)) idle = let is = may.0 in cc (is, idle)
+was_busy z f past actor u (HostChanged page entry) within (inr (inr may)) idle = let is = may.stands in cc (is, idle)
 was_busy z f past actor u _ within may idle = let is = may.0 in cc (is, idle)

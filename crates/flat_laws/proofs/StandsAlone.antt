@@ -9,7 +9,7 @@ use Rattle.core_views.specs.declared.event.EventKind.{EventKind}
 use Rattle.core_views.specs.declared.event.EventKind.TheVariants.{Begun, LookedAtPause, LookedAtSlots, LookedAtHost, BroughtIn, Accessed, Exited, SlotChanged}
 use Rattle.core_views.specs.declared.event.EventKind.TheVariants.{HostChanged, Armed, Taken, Harvested, Shown, Answered}
 use Rattle.core_views.specs.declared.trace.Command.{Command}
-use Rattle.core_views.specs.declared.trace.Command.TheVariants.{Access, ChangeHost, ClearLog, GetLog, Migrate, SetLog}
+use Rattle.core_views.specs.declared.trace.Command.TheVariants.{Access, ChangeHost, ChangeRun, ClearLog, GetLog, Migrate, SetLog}
 use Rattle.core_views.specs.declared.trace.HostChange.{HostChange}
 use Rattle.core_views.specs.declared.trace.HostChange.TheVariants.{Move, Evict, Protect, Allow}
 use Rattle.core_views.specs.declared.trace.Line.{Line}
@@ -31,6 +31,8 @@ use Rattle.core_views.specs.Alone.{AreWithin, IsInside, StandsAlone, StandsFirst
 use Rattle.core_views.proofs.HostLines.{owned_answer}
 use Rattle.core_views.proofs.SlotChanges.{changes}
 use Rattle.flat_laws.proofs.MigrationsStand.{Closed, migration_closed}
+use Rattle.flat_laws.proofs.RunsStand.{run_closed}
+use Rattle.core_views.specs.HostRuns.{owns_run}
 
 -- events of one line, and further ones after them
 pub within_append : (line : Line) (xs ys : List Event) → AreWithin line xs → AreWithin line ys → AreWithin line (xs ++ ys)
@@ -191,6 +193,7 @@ owned_closed z line page change f false = record { within = []; answer = Refused
 doing_closed : (z : Sizes) (line : Line) (command : Command) (f : Facts) → Closed line (looks z line command f ++ doing z line command f)
 doing_closed z line (Access gfn word op) f = unless_closed line gfn word op f (page_behind (flat_slots f.slots) gfn op) (is_paused f.migration)
 doing_closed z line (ChangeHost page change) f = owned_closed z line page change f (is_own z line.actor page)
+doing_closed z line (ChangeRun page change) f = run_closed z line page change f (owns_run z line.actor page change)
 doing_closed z line (GetLog id) f = read_closed z line (GetLog id) id f (answer_at_once z f.slots f.migration line.actor (GetLog id)) refl
 doing_closed z line (ClearLog id first count words) f =
     read_closed z line (ClearLog id first count words) id f (answer_at_once z f.slots f.migration line.actor (ClearLog id first count words)) refl

@@ -9,7 +9,7 @@ use Rattle.core_views.specs.declared.migration.ImageWord.{ImageWord}
 use Rattle.core_views.specs.declared.sizes.Sizes.{Sizes}
 use Rattle.core_views.specs.declared.memory_slot.MemorySlot.{MemorySlot}
 use Rattle.core_views.specs.declared.trace.Command.{Command}
-use Rattle.core_views.specs.declared.trace.Command.TheVariants.{Access, ChangeHost}
+use Rattle.core_views.specs.declared.trace.Command.TheVariants.{Access, ChangeHost, ChangeRun}
 use Rattle.core_views.specs.declared.trace.Op.TheVariants.{Read}
 use Rattle.core_views.specs.Events.{after_all}
 use Rattle.core_views.specs.Flat.{Facts, first_flat}
@@ -36,6 +36,7 @@ AreImaged z f =
 abbrev pub manages : Command → Bool
 manages (Access gfn word op) = false
 manages (ChangeHost page change) = false
+manages (ChangeRun page change) = false
 manages _ = true
 
 -- The event begins no such line, but for the migrator; and so do none of the events.

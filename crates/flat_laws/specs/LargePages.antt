@@ -1,10 +1,14 @@
 -- Closed histories over pages that the host maps as one large page: what lines print that would change one of them alone, and what they may not do.
-use Rattle.std.specs.Prelude.{◌≡◌, List, [], ◌∷◌, ◌++◌, true, false, map, codes}
+use Rattle.std.specs.Prelude.{◌≡◌, ℕ, List, [], ◌∷◌, ◌++◌, true, false, map, codes}
 use Rattle.core_views.specs.declared.answer.Answer.{Answer}
 use Rattle.core_views.specs.declared.answer.Answer.TheVariants.{Done, Refused}
 use Rattle.core_views.specs.declared.answer.Refusal.TheVariants.{IsHuge, NoFrame}
 use Rattle.core_views.specs.declared.event.EventKind.{EventKind}
 use Rattle.core_views.specs.declared.event.EventKind.TheVariants.{Begun, LookedAtHost, Exited, HostChanged}
+use Rattle.core_views.specs.declared.actor.Actor.TheVariants.{Host}
+use Rattle.core_views.specs.declared.trace.Command.TheVariants.{ChangeRun}
+use Rattle.core_views.specs.declared.trace.RunChange.{RunChange}
+use Rattle.core_views.specs.declared.trace.RunChange.TheVariants.{Huge, Small}
 use Rattle.core_views.specs.declared.trace.HostChange.TheVariants.{Move, Evict, Protect, Allow}
 use Rattle.core_views.specs.declared.trace.Line.{Line}
 use Rattle.core_views.specs.Flat.{Facts, Flat, first_facts, first_flat}
@@ -30,6 +34,19 @@ abbrev pub LargePrints : Type 0
 LargePrints = text (one_by_one host_sizes large_example large_facts)
     ≡ codes "2 h0 refused is-huge\n3 h0 refused is-huge\n4 h0 refused is-huge\n5 h0 refused is-huge\n"
     ++ codes "6 h0 refused out-of-range\n7 h1 refused is-huge\n"
+
+-- a line of a host thread that sets a run
+abbrev pub run_line : ℕ → ℕ → ℕ → RunChange → Line
+run_line number host page change = record { number = number; actor = Host host; command = ChangeRun page change }
+
+-- A small page may be made small, which it is; and no run is set that isn't the thread's own.
+abbrev pub RunsPrint : Type 0
+RunsPrint = text (one_by_one host_sizes (run_line 2 0 1 Small ∷ run_line 3 0 2 Small ∷ run_line 4 0 0 (Huge 2) ∷ run_line 5 1 2 (Huge 3) ∷ []) first_facts)
+    ≡ codes "2 h0 done\n3 h0 refused out-of-range\n4 h0 refused out-of-range\n5 h1 refused out-of-range\n"
+
+-- A run of one page is refused while the page is part of a large one.
+abbrev pub LargeRunsPrint : Type 0
+LargeRunsPrint = text (one_by_one host_sizes (run_line 2 0 1 (Huge 1) ∷ []) large_facts) ≡ codes "2 h0 refused is-huge\n"
 
 -- From this state the line begins, does this, and is answered so. That is not allowed.
 abbrev pub IsUnlawfulFrom : Flat → Line → List EventKind → Answer → Type 0

@@ -3,7 +3,7 @@ ghost use Rattle.flat_laws.specs.ReachedWrites.{OnlyWritesChange, OnlyWritesCoun
 ghost use Rattle.flat_laws.specs.SlotLines.{DeletesAtItsId, FittingPrints, KeepsOtherIds, LogsAtItsId, SetsAsRecord, SetsAtItsId, WholePrints};
 ghost use Rattle.flat_laws.specs.HostExamples.{FullPrints, HostPrints, PresentIsNotBroughtIn, AbsentIsNotReached, DeniedIsNotBroughtIn};
 ghost use Rattle.flat_laws.specs.HostExamples.{NamedIsNotTaken, OthersAreNotChanged, UnseenIsNotChanged};
-ghost use Rattle.flat_laws.specs.LargePages.{LargeIsLookedAt, LargeIsNotChanged, LargePrints, LargeWantsNoFrame, SmallIsChanged};
+ghost use Rattle.flat_laws.specs.LargePages.{LargeIsLookedAt, LargeIsNotChanged, LargePrints, LargeRunsPrint, LargeWantsNoFrame, RunsPrint, SmallIsChanged};
 ghost use Rattle.flat_laws.specs.Writes.{DueFramesAreKept, WritesAreBegun, WritesAreUnderWay, WritesAreRecorded};
 ghost use Rattle.flat_laws.specs.Images.{AnsweredImagesAreMemory, AnsweredWordsAreInOrder, AnsweredWordsAreMemory, MigrationsAreImaged};
 ghost use Rattle.flat_laws.specs.MigrationCounts.{CopiedTellsPages, NoneIsLeftToCopy};
@@ -71,11 +71,14 @@ pub fn unlawful_histories_are_refused()
 {}
 
 /// A law about closed histories over pages that the host maps as one large page. None of them is
-/// moved, evicted, protected or allowed by itself: such a line is refused (`prints`). It makes no
+/// moved, evicted, protected or allowed by itself: such a line is refused (`prints`), and so is one that
+/// is to make a run large that has such a page (`large`), or that isn't the thread's own (`runs`). It makes no
 /// change (`changed`), and isn't refused for want of a frame (`frame`). A line is refused so only where
 /// it has looked at its page (`looks`), and this was part of a large one (`small`).
 pub fn large_pages_stay()
     ensures prints { LargePrints }
+    ensures runs { RunsPrint }
+    ensures large { LargeRunsPrint }
     ensures changed { LargeIsNotChanged }
     ensures frame { LargeWantsNoFrame }
     ensures small { SmallIsChanged }

@@ -9,7 +9,7 @@ use Rattle.core_views.specs.declared.event.Event.{Event}
 use Rattle.core_views.specs.declared.event.EventKind.TheVariants.{Begun}
 use Rattle.core_views.specs.declared.sizes.Sizes.{Sizes}
 use Rattle.core_views.specs.declared.trace.Command.{Command}
-use Rattle.core_views.specs.declared.trace.Command.TheVariants.{Access, ChangeHost, ClearLog, GetLog}
+use Rattle.core_views.specs.declared.trace.Command.TheVariants.{Access, ChangeHost, ChangeRun, ClearLog, GetLog}
 use Rattle.core_views.specs.declared.trace.Line.{Line}
 use Rattle.core_views.specs.Events.{facts_after_all}
 use Rattle.core_views.specs.Flat.{Facts}
@@ -48,6 +48,7 @@ looks_none : (z : Sizes) (line : Line) (command : Command) (f : Facts) → is_ba
     ≡ answers line (Refused Migrating)
 looks_none z line (Access gfn word op) f barred = absurd (cc barred)
 looks_none z line (ChangeHost page change) f barred = absurd (cc barred)
+looks_none z line (ChangeRun page change) f barred = absurd (cc barred)
 looks_none z line _ f barred = refl
 
 both : (b c : Bool) → (b && c) ≡ true → b ≡ true

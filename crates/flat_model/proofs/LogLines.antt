@@ -10,7 +10,7 @@ use Rattle.core_views.specs.declared.answer.Refusal.{Refusal}
 use Rattle.core_views.specs.declared.event.Event.{Event}
 use Rattle.core_views.specs.declared.event.EventKind.TheVariants.{Begun, Taken}
 use Rattle.core_views.specs.declared.trace.Command.{Command}
-use Rattle.core_views.specs.declared.trace.Command.TheVariants.{Access, ChangeHost, ClearLog, DeleteSlot, GetLog, Migrate, SetLog, SetSlot}
+use Rattle.core_views.specs.declared.trace.Command.TheVariants.{Access, ChangeHost, ChangeRun, ClearLog, DeleteSlot, GetLog, Migrate, SetLog, SetSlot}
 use Rattle.core_views.specs.declared.trace.Line.{Line}
 use Rattle.core_views.specs.Events.{facts_after_all}
 use Rattle.core_views.specs.Flat.{Facts}
@@ -96,6 +96,7 @@ module _ (line : Line) (before after : Kept) (answer : Answer) where
       ∙ ap (λ (k : ℕ). events_of (ClearLog i first count words) k r) (same_Some i id reads)
   whole (Access gfn word op) id is reads free = absurd (cc reads)
   whole (ChangeHost page change) id is reads free = absurd (cc reads)
+  whole (ChangeRun page change) id is reads free = absurd (cc reads)
   whole (SetSlot i slot) id is reads free = absurd (cc reads)
   whole (DeleteSlot i) id is reads free = absurd (cc reads)
   whole (SetLog i on) id is reads free = absurd (cc reads)

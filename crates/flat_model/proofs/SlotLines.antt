@@ -12,7 +12,7 @@ use Rattle.core_views.specs.declared.event.Event.{Event}
 use Rattle.core_views.specs.declared.event.EventKind.TheVariants.{Begun, SlotChanged}
 use Rattle.core_views.specs.declared.memory_slot.MemorySlot.{MemorySlot}
 use Rattle.core_views.specs.declared.trace.Command.{Command}
-use Rattle.core_views.specs.declared.trace.Command.TheVariants.{Access, ChangeHost, ClearLog, DeleteSlot, GetLog, Migrate, SetLog, SetSlot}
+use Rattle.core_views.specs.declared.trace.Command.TheVariants.{Access, ChangeHost, ChangeRun, ClearLog, DeleteSlot, GetLog, Migrate, SetLog, SetSlot}
 use Rattle.core_views.specs.declared.trace.Line.{Line}
 use Rattle.core_views.specs.Events.{facts_after_all, unlogged}
 use Rattle.core_views.specs.Flat.{Facts}
@@ -48,6 +48,7 @@ module _ (line : Line) (before after : Kept) (answer : Answer) where
       → alone before.sizes line f ≡ events_of command (change_at_once before.sizes command before.slots)
   whole (Access gfn word op) is changes_ free = absurd (cc changes_)
   whole (ChangeHost page change) is changes_ free = absurd (cc changes_)
+  whole (ChangeRun page change) is changes_ free = absurd (cc changes_)
   whole (GetLog id) is changes_ free = absurd (cc changes_)
   whole (ClearLog id first count words) is changes_ free = absurd (cc changes_)
   whole (Migrate call) is changes_ free = absurd (cc changes_)
@@ -107,6 +108,7 @@ module _ (line : Line) (before after : Kept) (answer : Answer) where
   unarmed (SetLog id false) quiet = refl
   unarmed (Access gfn word op) quiet = refl
   unarmed (ChangeHost page change) quiet = refl
+  unarmed (ChangeRun page change) quiet = refl
   unarmed (GetLog id) quiet = refl
   unarmed (Migrate call) quiet = refl
   unarmed (ClearLog id first count words) quiet = refl
@@ -161,6 +163,7 @@ module _ (line : Line) (before after : Kept) (answer : Answer) where
       does_quietly (DeleteSlot id) change is works refl (subst (MakesChange (DeleteSlot id) before after) is done)
   does_by (Access gfn word op) change is works done = absurd (cc is)
   does_by (ChangeHost page change_) change is works done = absurd (cc is)
+  does_by (ChangeRun page change_) change is works done = absurd (cc is)
   does_by (GetLog id) change is works done = absurd (cc is)
   does_by (Migrate call) change is works done = absurd (cc is)
   does_by (ClearLog id first count words) change is works done = absurd (cc is)
@@ -190,6 +193,7 @@ module _ (line : Line) (before after : Kept) (answer : Answer) where
       → GivesLine before.sizes line (facts_of before) (facts_of after) answer
   slot_line (Access gfn word op) is changes_ free made_ = absurd (cc changes_)
   slot_line (ChangeHost page change) is changes_ free made_ = absurd (cc changes_)
+  slot_line (ChangeRun page change) is changes_ free made_ = absurd (cc changes_)
   slot_line (GetLog id) is changes_ free made_ = absurd (cc changes_)
   slot_line (ClearLog id first count words) is changes_ free made_ = absurd (cc changes_)
   slot_line (Migrate call) is changes_ free made_ = absurd (cc changes_)

@@ -8,7 +8,7 @@ use Rattle.core_views.specs.declared.answer.Refusal.TheVariants.{Missing}
 use Rattle.core_views.specs.declared.sizes.Sizes.{Sizes}
 use Rattle.core_views.specs.declared.memory_slot.MemorySlot.{MemorySlot}
 use Rattle.core_views.specs.declared.trace.Command.{Command}
-use Rattle.core_views.specs.declared.trace.Command.TheVariants.{Access, ChangeHost, ClearLog, DeleteSlot, GetLog, Migrate, SetLog, SetSlot}
+use Rattle.core_views.specs.declared.trace.Command.TheVariants.{Access, ChangeHost, ChangeRun, ClearLog, DeleteSlot, GetLog, Migrate, SetLog, SetSlot}
 use Rattle.core_views.specs.Refusals.{is_logged, log_refusal}
 use Rattle.core_views.specs.SlotCommands.{arms, change_at_once, slot_change}
 use Rattle.core_views.specs.Slots.{is_some_and}
@@ -59,6 +59,7 @@ pub new_log : (z : Sizes) (command : Command) (slots : MemorySlots) (change : �
     → change_at_once z command slots ≡ None → has_log change.1 ≡ arms command
 new_log z (Access gfn word op) slots change is works = absurd (cc is)
 new_log z (ChangeHost page change_) slots change is works = absurd (cc is)
+new_log z (ChangeRun page change_) slots change is works = absurd (cc is)
 new_log z (GetLog id) slots change is works = absurd (cc is)
 new_log z (Migrate call) slots change is works = absurd (cc is)
 new_log z (ClearLog id first count words) slots change is works = absurd (cc is)

@@ -107,6 +107,7 @@ impl Plain {
                 self.read_log(alloc, &line.command, id)
             }
             Command::Migrate { call } => self.migrate(alloc, call),
+            Command::ChangeRun { .. } => unreachable!(),
         }
     }
 

@@ -28,6 +28,7 @@ impl SlotSet {
             },
             Command::SetLog { id, on } => self.check_log(*id, *on).err().map(Some),
             Command::Access { .. } | Command::ChangeHost { .. } => None,
+            Command::ChangeRun { .. } => None,
             Command::GetLog { .. } | Command::ClearLog { .. } | Command::Migrate { .. } => None,
         }
     }
@@ -54,6 +55,7 @@ impl SlotSet {
             Command::DeleteSlot { id } => self.take_out(*id),
             Command::SetLog { id, on } => self.put_log(*id, *on),
             Command::Access { .. } | Command::ChangeHost { .. } => {}
+            Command::ChangeRun { .. } => {}
             Command::GetLog { .. } | Command::ClearLog { .. } | Command::Migrate { .. } => {}
         }
     }
@@ -65,6 +67,7 @@ impl SlotSet {
         match command {
             Command::SetSlot { id, .. } | Command::DeleteSlot { id } => Some(self.get(*id)?.slot),
             Command::Access { .. } | Command::ChangeHost { .. } | Command::SetLog { .. } => None,
+            Command::ChangeRun { .. } => None,
             Command::GetLog { .. } | Command::ClearLog { .. } | Command::Migrate { .. } => None,
         }
     }
@@ -78,6 +81,7 @@ impl SlotSet {
             Command::SetLog { on: false, .. } => None,
             Command::SetSlot { .. } | Command::DeleteSlot { .. } => None,
             Command::Access { .. } | Command::ChangeHost { .. } => None,
+            Command::ChangeRun { .. } => None,
             Command::GetLog { .. } | Command::ClearLog { .. } | Command::Migrate { .. } => None,
         }
     }

@@ -7,7 +7,7 @@ use Rattle.core_views.specs.declared.place.SlotField.TheVariants.{Flags}
 use Rattle.core_views.specs.declared.sizes.Sizes.{Sizes}
 use Rattle.core_views.specs.declared.memory_slot.MemorySlot.{MemorySlot}
 use Rattle.core_views.specs.declared.trace.Command.{Command}
-use Rattle.core_views.specs.declared.trace.Command.TheVariants.{Access, ChangeHost, ClearLog, DeleteSlot, GetLog, Migrate, SetLog, SetSlot}
+use Rattle.core_views.specs.declared.trace.Command.TheVariants.{Access, ChangeHost, ChangeRun, ClearLog, DeleteSlot, GetLog, Migrate, SetLog, SetSlot}
 use Rattle.core_views.specs.declared.trace.Slot.{Slot as SlotOf}
 use Rattle.core_views.specs.Refusals.{is_logged, log_refusal}
 use Rattle.core_views.specs.SlotCommands.{arms, change_at_once, slot_armed}
@@ -77,6 +77,7 @@ armed_at z pool set (SetLog id true) slots R is works =
 armed_at z pool set (SetLog id false) slots R is works = absurd (cc is)
 armed_at z pool set (Access gfn word op) slots R is works = absurd (cc is)
 armed_at z pool set (ChangeHost page change) slots R is works = absurd (cc is)
+armed_at z pool set (ChangeRun page change) slots R is works = absurd (cc is)
 armed_at z pool set (SetSlot id slot) slots R is works = absurd (cc is)
 armed_at z pool set (DeleteSlot id) slots R is works = absurd (cc is)
 armed_at z pool set (GetLog id) slots R is works = absurd (cc is)

@@ -12,7 +12,7 @@ use Rattle.core_views.specs.declared.place.Place.TheVariants as place
 use Rattle.core_views.specs.declared.sizes.Sizes.{Sizes}
 use Rattle.core_views.specs.declared.memory_slot.MemorySlot.{MemorySlot}
 use Rattle.core_views.specs.declared.trace.Command.{Command}
-use Rattle.core_views.specs.declared.trace.Command.TheVariants.{Access, ChangeHost, ClearLog, DeleteSlot, GetLog, Migrate, SetLog, SetSlot}
+use Rattle.core_views.specs.declared.trace.Command.TheVariants.{Access, ChangeHost, ChangeRun, ClearLog, DeleteSlot, GetLog, Migrate, SetLog, SetSlot}
 use Rattle.core_views.specs.declared.trace.Slot.{Slot as SlotOf}
 use Rattle.spte_words.specs.declared.area.Area.TheVariants as area
 use Rattle.part_steps.specs.SlotWords.{slot_at}
@@ -36,6 +36,7 @@ armed_live pool set slots (SetLog id true) slot R is = by (slot_of_id id slots) 
 armed_live pool set slots (SetLog id false) slot R is = absurd (cc is)
 armed_live pool set slots (Access gfn word op) slot R is = absurd (cc is)
 armed_live pool set slots (ChangeHost page change) slot R is = absurd (cc is)
+armed_live pool set slots (ChangeRun page change) slot R is = absurd (cc is)
 armed_live pool set slots (SetSlot id new_) slot R is = absurd (cc is)
 armed_live pool set slots (DeleteSlot id) slot R is = absurd (cc is)
 armed_live pool set slots (GetLog id) slot R is = absurd (cc is)

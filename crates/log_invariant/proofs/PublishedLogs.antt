@@ -7,7 +7,7 @@ use Rattle.core_views.specs.declared.place.SlotChangePlace.TheVariants as change
 use Rattle.core_views.specs.declared.sizes.Sizes.{Sizes}
 use Rattle.core_views.specs.declared.memory_slot.MemorySlot.{MemorySlot}
 use Rattle.core_views.specs.declared.trace.Command.{Command}
-use Rattle.core_views.specs.declared.trace.Command.TheVariants.{Access, ChangeHost, ClearLog, DeleteSlot, GetLog, Migrate, SetLog, SetSlot}
+use Rattle.core_views.specs.declared.trace.Command.TheVariants.{Access, ChangeHost, ChangeRun, ClearLog, DeleteSlot, GetLog, Migrate, SetLog, SetSlot}
 use Rattle.core_views.specs.declared.trace.Line.{Line}
 use Rattle.core_views.specs.declared.trace.Slot.{Slot as SlotOf}
 use Rattle.core_views.specs.Refusals.{is_logged}
@@ -116,6 +116,7 @@ keeps_recorded z (SetLog id on) slots changes works =
     (λ slot has. inr (log_begun id on slots slot has)) (logged_slot id on slots)
 keeps_recorded z (Access gfn word op) slots changes works = absurd (cc changes)
 keeps_recorded z (ChangeHost page change) slots changes works = absurd (cc changes)
+keeps_recorded z (ChangeRun page change) slots changes works = absurd (cc changes)
 keeps_recorded z (GetLog id) slots changes works = absurd (cc changes)
 keeps_recorded z (Migrate call) slots changes works = absurd (cc changes)
 keeps_recorded z (ClearLog id first count words) slots changes works = absurd (cc changes)
@@ -206,6 +207,7 @@ armed_stays slots (SetLog id true) =
 armed_stays slots (SetLog id false) = refl
 armed_stays slots (Access gfn word op) = refl
 armed_stays slots (ChangeHost page change) = refl
+armed_stays slots (ChangeRun page change) = refl
 armed_stays slots (SetSlot id new_) = refl
 armed_stays slots (DeleteSlot id) = refl
 armed_stays slots (GetLog id) = refl

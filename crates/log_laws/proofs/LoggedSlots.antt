@@ -10,11 +10,11 @@ use Rattle.core_views.specs.declared.answer.Refusal.TheVariants.{Logged, Missing
 use Rattle.core_views.specs.declared.event.Event.{Event}
 use Rattle.core_views.specs.declared.event.EventKind.{EventKind}
 use Rattle.core_views.specs.declared.event.EventKind.TheVariants.{Armed, BroughtIn, GuestStopped, Harvested, LookedAtHost, LookedAtPause, LookedAtSlots}
-use Rattle.core_views.specs.declared.event.EventKind.TheVariants.{SlotChanged, Taken, WordCopied}
+use Rattle.core_views.specs.declared.event.EventKind.TheVariants.{HostChanged, SlotChanged, Taken, WordCopied}
 use Rattle.core_views.specs.declared.memory_slot.MemorySlot.{MemorySlot}
 use Rattle.core_views.specs.declared.sizes.Sizes.{Sizes}
 use Rattle.core_views.specs.declared.trace.Command.{Command}
-use Rattle.core_views.specs.declared.trace.Command.TheVariants.{Access, ChangeHost, ClearLog, DeleteSlot, GetLog, Migrate, SetLog, SetSlot}
+use Rattle.core_views.specs.declared.trace.Command.TheVariants.{Access, ChangeHost, ClearLog, DeleteSlot, GetLog, Migrate, SetLog, SetSlot, ChangeRun}
 use Rattle.core_views.specs.Actors.{is_same}
 use Rattle.core_views.specs.Events.{after, after_all, facts_after, logs_left, stage_copied, stage_read, stage_taken, to_read_or_copy, under_after}
 use Rattle.core_views.specs.Flat.{Facts, Flat, HasChanged, HasTakenNext, HasToCopy, LineUnderWay, Stage, first_flat}
@@ -34,6 +34,7 @@ use Rattle.flat_laws.proofs.GuestLines.{IsGuests, IsOfGuests, guests_tell, stays
 use Rattle.flat_laws.proofs.PendingArmed.{AreArmed, IsInArmed, armed_after, first_armed}
 use Rattle.flat_laws.proofs.SlotsApart.{changed_elsewhere, changed_here}
 use Rattle.flat_laws.proofs.Writes.{apart_actors}
+use Rattle.core_views.proofs.RunStages.{each_change}
 
 -- A slot whose writes are logged has a dirty log.
 abbrev pub HaveLogs : Facts → Type 0
@@ -54,6 +55,7 @@ changes_at : (z : Sizes) (f : Facts) (actor : Actor) (command : Command) (change
     → slot_change f.slots command ≡ Some change → change_at_once z command f.slots ≡ None
 changes_at z f actor (Access gfn word op) change works is = refl
 changes_at z f actor (ChangeHost page host) change works is = refl
+changes_at z f actor (ChangeRun page host) change works is = refl
 changes_at z f actor (GetLog id) change works is = refl
 changes_at z f actor (ClearLog id first count words) change works is = refl
 changes_at z f actor (Migrate call) change works is = refl
@@ -90,6 +92,7 @@ takes_log : (z : Sizes) (f : Facts) (command : Command) (id : ℕ) (slot : Optio
     → slot_change f.slots command ≡ Some (id, slot) → is_logged id f.slots ≡ true → command ≡ SetLog id false
 takes_log z f (Access gfn word op) id slot works is logged = absurd (cc is)
 takes_log z f (ChangeHost page change) id slot works is logged = absurd (cc is)
+takes_log z f (ChangeRun page change) id slot works is logged = absurd (cc is)
 takes_log z f (GetLog i) id slot works is logged = absurd (cc is)
 takes_log z f (ClearLog i first count words) id slot works is logged = absurd (cc is)
 takes_log z f (Migrate call) id slot works is logged = absurd (cc is)
@@ -178,6 +181,8 @@ waits_after z f past actor u (Harvested id frames) may A is = absurd (not_read u
 waits_after z f past actor u GuestStopped may A is = absurd (not_left _ _ is)
 waits_after z f past actor u (WordCopied gfn page word value whole) may A is =
     absurd (not_copied whole u.stage gfn may.frames may.count word may.left is)
+waits_after z f past actor u (HostChanged page entry) may A is =
+    absurd (each_change (λ s. s ≡ HasChanged → ⊥) (λ e at. cc at) (λ p l n at. cc at) u.line.command f.host u.stage page entry is)
 waits_after z f past actor u _ may A is = absurd (cc is)
 
 own_logged : (z : Sizes) (f : Facts) (past : Past) (actor : Actor) (u : LineUnderWay) (kind : EventKind) → IsAllowed z f past actor u kind

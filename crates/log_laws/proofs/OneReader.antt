@@ -13,7 +13,7 @@ use Rattle.core_views.specs.LogCommands.{log_read, reads_logs}
 use Rattle.core_views.specs.declared.answer.Answer.{Answer}
 use Rattle.core_views.specs.declared.trace.Command.{Command}
 use Rattle.core_views.specs.declared.trace.Command.TheVariants.{ClearLog, GetLog}
-use Rattle.core_views.specs.declared.event.EventKind.TheVariants.{GuestStopped, WordCopied}
+use Rattle.core_views.specs.declared.event.EventKind.TheVariants.{GuestStopped, HostChanged, WordCopied}
 use Rattle.core_views.specs.SlotSets.{MemorySlots}
 use Rattle.flat_laws.proofs.StagesGoOn.{was_busy}
 use Rattle.core_views.specs.Past.{Past}
@@ -29,6 +29,7 @@ use Rattle.log_laws.specs.OneReader.{OnlyReads, ReadingsAreApart, StillReads, St
 use Rattle.flat_laws.proofs.AloneIsLawful.{lawful_parts}
 use Rattle.log_laws.proofs.Readings.{complete}
 use Rattle.core_views.specs.FlatHistory.{harvest}
+use Rattle.core_views.proofs.RunStages.{changes_at}
 
 -- No line is under way, or one that reads no log.
 abbrev IsNoReader : LineUnderWay → Type 0
@@ -111,6 +112,8 @@ reads_on z f past actor reader u GuestStopped may in_it ends mine = at_other u.s
 reads_on z f past actor reader u (WordCopied gfn page word value whole) may in_it ends mine =
     at_other u.stage (HasToCopy (gfn ∷ may.frames) may.count word) may.left refl in_it
 reads_on z f past actor reader u (Answered line answer) may in_it ends mine = tells_not z f actor u.line.command u.stage answer may.1 in_it
+reads_on z f past actor reader u (HostChanged page entry) may in_it ends mine =
+    changes_at (λ s. is_reading s ≡ true → ⊥) (λ e. cc e) (λ p l n e. cc e) z f past actor u page entry may in_it
 reads_on z f past actor reader u _ may in_it ends mine = at_other u.stage Fresh may.0 refl in_it
 
 -- Nobody begins to read who has no line that does.

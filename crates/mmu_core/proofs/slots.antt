@@ -1,5 +1,6 @@
 pub mod Accepted
 pub mod Changes
+pub mod ChangeRecorded
 pub mod LiveStay
 pub mod LiveStays
 pub mod SetFilled

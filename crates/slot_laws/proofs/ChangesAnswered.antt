@@ -14,7 +14,7 @@ use Rattle.core_views.specs.declared.event.EventKind.TheVariants.{GuestStopped, 
 use Rattle.core_views.specs.declared.host.HostEntry.{HostEntry}
 use Rattle.core_views.specs.declared.sizes.Sizes.{Sizes}
 use Rattle.core_views.specs.declared.trace.Command.{Command}
-use Rattle.core_views.specs.declared.trace.Command.TheVariants.{ChangeHost}
+use Rattle.core_views.specs.declared.trace.Command.TheVariants.{ChangeHost, ChangeRun}
 use Rattle.core_views.specs.declared.trace.HostChange.{HostChange}
 use Rattle.core_views.specs.declared.trace.HostChange.TheVariants.{Allow, Evict, Move, Protect}
 use Rattle.core_views.specs.declared.trace.Line.{Line}
@@ -35,6 +35,8 @@ use Rattle.slot_laws.specs.OneChange.{TellsNoChange, HostLineTells, HostLinesTel
 use Rattle.slot_laws.proofs.BegunLines.{here, same_line, there}
 use Rattle.slot_laws.proofs.OneChange.{None_, One_, Walked, entry_told, line_stays, made, walked}
 use Rattle.slot_laws.proofs.DoneLines.{done_comes_of_one_change}
+use Rattle.core_views.specs.HostRuns.{sets_run}
+use Rattle.core_views.proofs.RunStages.{changed_one}
 
 -- ---- what its answer says
 
@@ -82,7 +84,10 @@ module _ (z : Sizes) (page : ℕ) (change : HostChange) where
   fits_own f past actor u (Harvested id frames) is (inl may) inside fits = absurd (subst FitsHost may.begun fits)
   fits_own f past actor u (Harvested id frames) is (inr may) inside fits = absurd (subst FitsHost may.begun fits)
   fits_own f past actor u (Shown id frames) is may inside fits = absurd (subst FitsHost may.begun fits)
-  fits_own f past actor u (HostChanged other entry) is may inside fits = tt
+  fits_own f past actor u (HostChanged other entry) is (inl may) inside fits =
+      subst FitsHost (sym (changed_one u.line.command f.host u.stage other entry page change may.0 is)) tt
+  fits_own f past actor u (HostChanged other entry) is (inr (inl may)) inside fits = absurd (let asked = may.1.asked in cc (is, asked))
+  fits_own f past actor u (HostChanged other entry) is (inr (inr may)) inside fits = absurd (let asked = may.asked in cc (is, asked))
   fits_own f past actor u MigrationStarted is may inside fits = absurd (let asked = may.2 in cc (is, asked))
   fits_own f past actor u PauseSet is may inside fits = absurd (let asked = may.2 in cc (is, asked))
   fits_own f past actor u GuestStopped is may inside fits = absurd (subst FitsHost may fits)
@@ -137,6 +142,11 @@ not_refused Evict page entry = refl
 not_refused Protect page entry = refl
 not_refused Allow page entry = refl
 
+-- A slot line sets no run.
+sets_none : (c : Command) → changes_slot c ≡ true → sets_run c ≡ false
+sets_none (ChangeRun page change) is = absurd (cc is)
+sets_none _ is = refl
+
 -- ---- from its begin to its answer
 
 module _ (z : Sizes) (before between : List Event) (line : Line) (answer : Answer)
@@ -166,15 +176,15 @@ module _ (z : Sizes) (before between : List Event) (line : Line) (answer : Answe
       subst (λ (l : Line). Tells z (after_all between start).facts line.actor l.command ((after_all between start).under line.actor).stage answer)
       (line_stays z line between start within begun_line) parts.1.0.1
 
-  walk : Walked z line start between
-  walk = walked z line between start parts.0 within begun_line
+  walk : sets_run line.command ≡ false → Walked z line start between
+  walk one = walked z line between start one parts.0 within begun_line
 
   slot_line_tells : changes_slot line.command ≡ true → SlotLineTells z line answer start between
   slot_line_tells is = record {
     done = λ e. done_comes_of_one_change z before between line is
         (subst (λ (a : Answer). IsLawful z first_flat (before ++ (by line (Begun line) ∷ (between ++ (by line (Answered line.number a) ∷ []))))) e lawful)
         within;
-    other = λ ne. none ne walk;
+    other = λ ne. none ne (walk (sets_none line.command is));
   }
     where
       none : answer ≢ Done → Walked z line start between → TellsNoChange line.actor between
@@ -184,7 +194,7 @@ module _ (z : Sizes) (before between : List Event) (line : Line) (answer : Answe
           (λ still. cc (still, end_)) tells))
 
   host_line_tells : (page : ℕ) (change : HostChange) → line.command ≡ ChangeHost page change → HostLineTells z line answer start between
-  host_line_tells page change is = record { done = λ e. one e walk; refused = λ e. none e walk }
+  host_line_tells page change is = record { done = λ e. one e (walk (ap sets_run is)); refused = λ e. none e (walk (ap sets_run is)) }
     where
       end_stage : Stage
       end_stage = ((after_all between start).under line.actor).stage

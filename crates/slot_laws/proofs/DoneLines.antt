@@ -36,6 +36,7 @@ use Rattle.flat_laws.proofs.AloneIsLawful.{lawful_parts}
 use Rattle.flat_laws.proofs.Writes.{apart_actors}
 use Rattle.slot_laws.specs.DoneLines.{ChangesOnce, DoneComesOfOneChange, HasNothingToDo, LeavesSlots, NoneChanges, begins_after, by}
 use Rattle.slot_laws.proofs.SlotLineStages.{is_over, is_past, no_call, no_look, none_left, not_at, not_done, not_fresh, not_taken, reads_none}
+use Rattle.core_views.proofs.RunStages.{changes_at}
 
 -- ---- what a slot line's own events are
 
@@ -79,8 +80,12 @@ module _ (z : Sizes) (line : Line) (changes : changes_slot line.command ≡ true
   own f past u GuestStopped may inside U = let fresh = U.stage_is in absurd (cc (may, fresh))
   own f past u (WordCopied gfn page word value whole) may inside U = let is = may.left in let fresh = U.stage_is in absurd (cc (is, fresh))
   own f past u (Shown id frames) may inside U = let is = may.begun in let fresh = U.stage_is in absurd (cc (is, fresh))
-  own f past u (HostChanged page entry) may inside U =
+  own f past u (HostChanged page entry) (inl may) inside U =
       let asked = may.1.asked in let is = ap (λ (l : Line). l.command) (sym U.line_is) ∙ asked in absurd (cc (is, changes))
+  own f past u (HostChanged page entry) (inr (inl may)) inside U =
+      let asked = may.1.asked in let is = ap (λ (l : Line). l.command) (sym U.line_is) ∙ asked in absurd (cc (is, changes))
+  own f past u (HostChanged page entry) (inr (inr may)) inside U =
+      let asked = may.asked in let is = ap (λ (l : Line). l.command) (sym U.line_is) ∙ asked in absurd (cc (is, changes))
   own f past u (Answered number answer) may inside U = absurd inside
 
   -- Where it stands otherwise than fresh it makes no event but one: a log is armed after the change.
@@ -107,7 +112,8 @@ module _ (z : Sizes) (line : Line) (changes : changes_slot line.command ≡ true
   armed_next f past u (Harvested id frames) (inl may) inside at o = absurd (not_taken u id at may.begun)
   armed_next f past u (Harvested id frames) (inr may) inside at o = absurd (not_at u.stage (HasTakenNext id may.ids) (is_past u at) may.begun refl)
   armed_next f past u (Shown id frames) may inside at o = absurd (not_taken u id at may.begun)
-  armed_next f past u (HostChanged page entry) may inside at o = absurd (not_fresh u at may.0)
+  armed_next f past u (HostChanged page entry) may inside at o =
+      absurd (changes_at (λ s. is_over s ≡ true → ⊥) (λ e. cc e) (λ p l n e. cc e) z f past line.actor u page entry may (is_past u at))
 
   -- Given up, it makes none.
   left_ends : (f : Facts) (past : Past) (u : LineUnderWay) (how : Answer) (kind : EventKind) → IsAllowed z f past line.actor u kind → IsInside kind
@@ -132,7 +138,8 @@ module _ (z : Sizes) (line : Line) (changes : changes_slot line.command ≡ true
   left_ends f past u how (Harvested id frames) (inl may) inside at = let is = may.begun in cc (is, at)
   left_ends f past u how (Harvested id frames) (inr may) inside at = let is = may.begun in cc (is, at)
   left_ends f past u how (Shown id frames) may inside at = let is = may.begun in cc (is, at)
-  left_ends f past u how (HostChanged page entry) may inside at = let is = may.0 in cc (is, at)
+  left_ends f past u how (HostChanged page entry) may inside at =
+      changes_at (λ s. s ≡ HasLeft how → ⊥) (λ e. cc e) (λ p l n e. cc e) z f past line.actor u page entry may at
 
   -- ---- its events, and those of others between them
 

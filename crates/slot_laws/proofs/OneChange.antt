@@ -25,6 +25,8 @@ use Rattle.flat_laws.specs.Writes.{StaysWithin}
 use Rattle.flat_laws.proofs.Writes.{apart_actors}
 use Rattle.slot_laws.specs.OneChange.{AsksFor, TellsNoChange, TellsOne, is_change}
 use Rattle.slot_laws.proofs.BegunLines.{here, same_line, there}
+use Rattle.core_views.specs.HostRuns.{sets_run}
+use Rattle.core_views.proofs.RunStages.{changed_one}
 
 -- ---- what a line at a stage has changed
 
@@ -71,33 +73,37 @@ begun_none : (z : Sizes) (f : Facts) (past : Past) (u : LineUnderWay) (id : ℕ)
 begun_none z f past u id frames (inl M) = ap made M.begun
 begun_none z f past u id frames (inr M) = ap made M.begun
 
-own : (z : Sizes) (f : Facts) (past : Past) (actor : Actor) (u : LineUnderWay) (kind : EventKind) → IsAllowed z f past actor u kind → IsInside kind
-    → Own z f u kind
-own z f past actor u (Begun l) may inside = absurd inside
-own z f past actor u (Answered number answer) may inside = absurd inside
-own z f past actor u LookedAtPause may inside = Keeps refl refl
-own z f past actor u LookedAtSlots may inside = Keeps refl refl
-own z f past actor u (LookedAtHost page) may inside = Keeps refl refl
-own z f past actor u (BroughtIn page) may inside = Keeps refl refl
-own z f past actor u (Accessed gfn word op frame value) may inside = Keeps refl (sym (ap made may.0))
-own z f past actor u (Exited answer) may inside = Keeps refl (sym (ap made may.0))
-own z f past actor u (SlotChanged id slot) may inside = Makes (ap made may.0) refl may.2
-own z f past actor u (Armed id all) may inside = Keeps refl (sym (ap made may.0))
-own z f past actor u (Taken id) (inl may) inside =
+own : (z : Sizes) (f : Facts) (past : Past) (actor : Actor) (u : LineUnderWay) (kind : EventKind) → sets_run u.line.command ≡ false
+    → IsAllowed z f past actor u kind → IsInside kind → Own z f u kind
+own z f past actor u (Begun l) none may inside = absurd inside
+own z f past actor u (Answered number answer) none may inside = absurd inside
+own z f past actor u LookedAtPause none may inside = Keeps refl refl
+own z f past actor u LookedAtSlots none may inside = Keeps refl refl
+own z f past actor u (LookedAtHost page) none may inside = Keeps refl refl
+own z f past actor u (BroughtIn page) none may inside = Keeps refl refl
+own z f past actor u (Accessed gfn word op frame value) none may inside = Keeps refl (sym (ap made may.0))
+own z f past actor u (Exited answer) none may inside = Keeps refl (sym (ap made may.0))
+own z f past actor u (SlotChanged id slot) none may inside = Makes (ap made may.0) refl may.2
+own z f past actor u (Armed id all) none may inside = Keeps refl (sym (ap made may.0))
+own z f past actor u (Taken id) none (inl may) inside =
     Keeps refl (taken_none (log_read u.line.command) (logs_left f.slots u.line.command u.stage) id ∙ sym (ap made may.0))
-own z f past actor u (Taken id) (inr may) inside =
+own z f past actor u (Taken id) none (inr may) inside =
     Keeps refl (taken_none (log_read u.line.command) (logs_left f.slots u.line.command u.stage) id
     ∙ sym (left_none f.slots u.line.command u.stage id may.ids may.left))
-own z f past actor u (Harvested id frames) may inside =
+own z f past actor u (Harvested id frames) none may inside =
     Keeps refl (read_none u.stage frames (facts_after (Harvested id frames) f) ∙ sym (begun_none z f past u id frames may))
-own z f past actor u (Shown id frames) may inside = Keeps refl (sym (ap made may.begun))
-own z f past actor u (HostChanged page entry) may inside = Makes (ap made may.0) refl (may.1.change, may.1.asked, may.1.changes)
-own z f past actor u MigrationStarted may inside = Keeps refl (sym (ap made may.0))
-own z f past actor u PauseSet may inside = Keeps refl (sym (ap made may.0))
-own z f past actor u GuestStopped may inside = Keeps refl (to_none _ _ ∙ sym (ap made may))
-own z f past actor u (WordCopied gfn page word value whole) may inside =
+own z f past actor u (Shown id frames) none may inside = Keeps refl (sym (ap made may.begun))
+own z f past actor u (HostChanged page entry) none (inl may) inside =
+    Makes (ap made may.0) (ap made (changed_one u.line.command f.host u.stage page entry page may.1.change may.0 may.1.asked))
+    (may.1.change, may.1.asked, may.1.changes)
+own z f past actor u (HostChanged page entry) none (inr (inl may)) inside = absurd (let sets = ap sets_run may.1.asked in cc (none, sets))
+own z f past actor u (HostChanged page entry) none (inr (inr may)) inside = absurd (let sets = ap sets_run may.asked in cc (none, sets))
+own z f past actor u MigrationStarted none may inside = Keeps refl (sym (ap made may.0))
+own z f past actor u PauseSet none may inside = Keeps refl (sym (ap made may.0))
+own z f past actor u GuestStopped none may inside = Keeps refl (to_none _ _ ∙ sym (ap made may))
+own z f past actor u (WordCopied gfn page word value whole) none may inside =
     Keeps refl (ap (λ (s : Stage). made (stage_copied whole s)) may.left ∙ copied_none whole gfn may.frames may.count word ∙ sym (ap made may.left))
-own z f past actor u Resumed may inside = Keeps refl (sym (ap made may.0))
+own z f past actor u Resumed none may inside = Keeps refl (sym (ap made may.0))
 
 -- ---- over its events, and those of others between them
 
@@ -140,9 +146,9 @@ module _ (z : Sizes) (line : Line) where
   }) none (end_ ∙ makes)
   makes_now e es f mine none makes asks (One_ kind T none_yet end_) = absurd (cc (none_yet, makes))
 
-  pub walked : (es : List Event) (f : Flat) → IsLawful z f es → StaysWithin line.actor es → (under_in f).line ≡ line → Walked z line f es
-  walked [] f lawful within is = None_ tt refl
-  walked (e ∷ es) f lawful within is = by_actor (is_same e.actor line.actor) refl (λ more. walked es (after e f) lawful.1 within.1 more)
+  pub walked : (es : List Event) (f : Flat) → sets_run line.command ≡ false → IsLawful z f es → StaysWithin line.actor es → (under_in f).line ≡ line → Walked z line f es
+  walked [] f none lawful within is = None_ tt refl
+  walked (e ∷ es) f none lawful within is = by_actor (is_same e.actor line.actor) refl (λ more. walked es (after e f) none lawful.1 within.1 more)
     where
       by_own : e.actor ≡ line.actor → Own z f.facts (under_in f) e.kind → Walked z line (after e f) es → Walked z line f (e ∷ es)
       by_own mine (Keeps leaves same) more =
@@ -156,7 +162,7 @@ module _ (z : Sizes) (line : Line) where
           let mine : e.actor ≡ line.actor = same_is e.actor line.actor same in
           let inside : IsInside e.kind = within.0 mine in
           by_own mine
-          (own z f.facts f.past line.actor (under_in f) e.kind (subst (λ (x : Actor). IsAllowed z f.facts f.past x (f.under x) e.kind) mine lawful.0) inside)
+          (own z f.facts f.past line.actor (under_in f) e.kind (ap (λ (l : Line). sets_run l.command) is ∙ none) (subst (λ (x : Actor). IsAllowed z f.facts f.past x (f.under x) e.kind) mine lawful.0) inside)
           (more (ap (λ (u : LineUnderWay). u.line) (here z line.actor e f mine) ∙ same_line e.kind f.facts (under_in f) inside ∙ is))
       by_actor false apart more =
           keeps_on e es f (λ mine. absurd (apart_actors e.actor line.actor apart mine))

@@ -7,7 +7,7 @@ use Rattle.core_views.specs.declared.answer.Answer.TheVariants.{Bits, Copied, Do
 use Rattle.core_views.specs.declared.trace.MigrationCall.{MigrationCall}
 use Rattle.core_views.specs.declared.sizes.Sizes.{Sizes}
 use Rattle.core_views.specs.declared.trace.Command.{Command}
-use Rattle.core_views.specs.declared.trace.Command.TheVariants.{Access, ChangeHost, ClearLog, DeleteSlot, GetLog, Migrate, SetLog, SetSlot}
+use Rattle.core_views.specs.declared.trace.Command.TheVariants.{Access, ChangeHost, ClearLog, DeleteSlot, GetLog, Migrate, SetLog, SetSlot, ChangeRun}
 use Rattle.core_views.specs.Events.{logs_left}
 use Rattle.core_views.specs.Flat.{Facts, Fresh, HasArmed, HasChanged, HasLeft, HasTaken, HasToCopy, HasToRead}
 use Rattle.core_views.specs.Flat.{LineUnderWay, Notes, Stage}
@@ -24,6 +24,7 @@ not_done z f actor (DeleteSlot id) notes Done is may = absurd may
 not_done z f actor (SetLog id on) notes Done is may = absurd may
 not_done z f actor (Access gfn word op) notes answer is may = absurd (cc is)
 not_done z f actor (ChangeHost page change) notes answer is may = absurd (cc is)
+not_done z f actor (ChangeRun page change) notes answer is may = absurd (cc is)
 not_done z f actor (GetLog id) notes answer is may = absurd (cc is)
 not_done z f actor (ClearLog id first count words) notes answer is may = absurd (cc is)
 not_done z f actor (Migrate call) notes answer is may = absurd (cc is)
@@ -56,6 +57,7 @@ reads_none (DeleteSlot i) id is reads = cc reads
 reads_none (SetLog i on) id is reads = cc reads
 reads_none (Access gfn word op) id is reads = cc is
 reads_none (ChangeHost page change) id is reads = cc is
+reads_none (ChangeRun page change) id is reads = cc is
 reads_none (Migrate call) id is reads = cc is
 
 -- Nor is it one of a migration.

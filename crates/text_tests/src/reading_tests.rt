@@ -2,7 +2,7 @@
 
 use crate::cases::{Way, expect_all};
 use crate::expected::expect_text;
-use core_views::{Command, Header, HostChange, Line, Op, Slot, Trace};
+use core_views::{Command, Header, HostChange, Line, Op, RunChange, Slot, Trace};
 use std::alloc::{AllocError, Global};
 use std::test::Fail;
 use tdp_io::MemSource;
@@ -613,6 +613,10 @@ fn command_text(alloc: Global, command: &Command) -> Result<String, AllocError> 
             let name = change_name(*change);
             format!(in alloc; "{name} {page}")
         }
+        Command::ChangeRun { page, change } => match change {
+            RunChange::Huge(level) => format!(in alloc; "huge {page} {level}"),
+            RunChange::Small => format!(in alloc; "small {page}"),
+        },
         Command::SetLog { id, on } => format!(in alloc; "log {id} {on}"),
         Command::GetLog { id } => format!(in alloc; "get {id}"),
         Command::Migrate { call } => format!(in alloc; "migrate {call:?}"),

@@ -7,7 +7,7 @@ use Rattle.core_views.specs.declared.event.Event.{Event}
 use Rattle.core_views.specs.declared.event.EventKind.{EventKind}
 use Rattle.core_views.specs.declared.event.EventKind.TheVariants.{Begun, LookedAtPause, LookedAtSlots, LookedAtHost, BroughtIn, Accessed}
 use Rattle.core_views.specs.declared.event.EventKind.TheVariants.{Taken, Harvested}
-use Rattle.core_views.specs.declared.event.EventKind.TheVariants.{GuestStopped, WordCopied}
+use Rattle.core_views.specs.declared.event.EventKind.TheVariants.{GuestStopped, HostChanged, WordCopied}
 use Rattle.core_views.specs.declared.sizes.Sizes.{Sizes}
 use Rattle.core_views.specs.declared.trace.Line.{Line}
 use Rattle.core_views.specs.Actors.{is_same}
@@ -20,6 +20,7 @@ use Rattle.core_views.specs.Whole.{lines_begun, lines_of, or_begun}
 use Rattle.core_views.proofs.SameActor.{is_same_self, same_is}
 use Rattle.word_laws.specs.Accesses.{AccessesAreAsked, AreAskedBy, Made, accesses_by, made_by}
 use Rattle.word_laws.proofs.UnderWay.{other_under, own_under}
+use Rattle.core_views.proofs.RunStages.{each_change}
 
 -- the line that may still make its access: one that has done nothing yet
 abbrev waiting_at : Line → Stage → List Line
@@ -86,6 +87,9 @@ own_asked z f past actor u GuestStopped later made may asked =
 own_asked z f past actor u (WordCopied gfn page word value whole) later made may asked =
     no_longer u (under_after (WordCopied gfn page word value whole) f u) later made
     (ap (λ (s : Stage). waiting_at u.line (stage_copied whole s)) may.left ∙ copied_waits u.line whole (gfn ∷ may.frames) may.count word) asked
+own_asked z f past actor u (HostChanged page entry) later made may asked =
+    no_longer u (under_after (HostChanged page entry) f u) later made
+    (each_change (λ s. waiting_at u.line s ≡ []) (λ e. refl) (λ p l n. refl) u.line.command f.host u.stage page entry) asked
 own_asked z f past actor u _ later made may asked = skips u.line u.stage later made asked
 
 -- The lines that the actor begins with an event, and those that it begins later.

@@ -18,7 +18,7 @@ use Rattle.core_views.specs.declared.host.HostEntry.{HostEntry}
 use Rattle.core_views.specs.declared.migration.Migration.{Migration}
 use Rattle.core_views.specs.declared.sizes.Sizes.{Sizes}
 use Rattle.core_views.specs.declared.trace.Command.{Command}
-use Rattle.core_views.specs.declared.trace.Command.TheVariants.{Access, ChangeHost, ClearLog, DeleteSlot, GetLog, Migrate, SetLog, SetSlot}
+use Rattle.core_views.specs.declared.trace.Command.TheVariants.{Access, ChangeHost, ClearLog, DeleteSlot, GetLog, Migrate, SetLog, SetSlot, ChangeRun}
 use Rattle.core_views.specs.declared.trace.HostChange.{HostChange}
 use Rattle.core_views.specs.declared.trace.HostChange.TheVariants.{Move}
 use Rattle.core_views.specs.declared.trace.MigrationCall.{MigrationCall}
@@ -27,7 +27,7 @@ use Rattle.core_views.specs.AtOnce.{HasWork, answer_at_once, answer_unbarred}
 use Rattle.core_views.specs.Copies.{MayHarvest, MayReadNext, copied_answer}
 use Rattle.core_views.specs.Events.{facts_after, logs_left, stage_copied, stage_read, stage_taken, to_read_or_copy, under_after}
 use Rattle.core_views.specs.Flat.{Facts, LineUnderWay, Stage, Fresh, HasAccessed, HasLeft, HasChanged, HasArmed, HasTaken, HasRead}
-use Rattle.core_views.specs.Flat.{HasCalled, HasChangedHost, HasSetPause, HasTakenNext, HasToCopy, Notes}
+use Rattle.core_views.specs.Flat.{HasCalled, HasChangedHost, HasToSet, HasSetPause, HasTakenNext, HasToCopy, Notes}
 use Rattle.core_views.specs.HostChanges.{host_answer, host_refusal}
 use Rattle.core_views.specs.Lawful.{IsAllowed, MayLeave, MayRead, Tells}
 use Rattle.core_views.specs.LogCommands.{log_read, read_refusal}
@@ -36,6 +36,8 @@ use Rattle.core_views.specs.Past.{Past}
 use Rattle.core_views.specs.SlotCommands.{change_at_once, refused_or_done}
 use Rattle.core_views.specs.SlotSets.{MemorySlots}
 use Rattle.word_laws.specs.Accesses.{Told, made_by, open_access, open_at, told, told_by}
+use Rattle.core_views.specs.HostRuns.{run_at_once}
+use Rattle.core_views.proofs.RunStages.{changes_at, each_change}
 
 -- what an event tells of an access
 abbrev pub told_of : EventKind → List Told
@@ -84,6 +86,7 @@ no_call number slots migration Resume = unless number (is_stopped migration) Not
 unbarred : (number : ℕ) (z : Sizes) (slots : MemorySlots) (migration : Migration) (actor : Actor) (command : Command)
     → told_if number (answer_unbarred z slots migration actor command) ≡ []
 unbarred number z slots migration actor (ChangeHost page change) = no_refusal number (host_refusal z actor page)
+unbarred number z slots migration actor (ChangeRun page change) = no_refusal number (run_at_once z actor page change)
 unbarred number z slots migration actor (GetLog id) = no_refusal number (read_refusal (GetLog id) slots)
 unbarred number z slots migration actor (ClearLog id first count words) = no_refusal number (read_refusal (ClearLog id first count words) slots)
 unbarred number z slots migration actor (Migrate call) = no_call number slots migration call
@@ -133,6 +136,7 @@ answered_so z f actor command HasChanged answer number tells well = sym (ap (tol
 answered_so z f actor command HasArmed answer number tells well = sym (ap (told_by number) tells)
 answered_so z f actor command (HasRead frames) answer number tells well = sym (ap (told_by number) tells)
 answered_so z f actor command (HasChangedHost entry) answer number tells well = sym (ap (told_by number) tells ∙ host_none number command entry)
+answered_so z f actor command (HasToSet page left level) answer number tells well = sym (ap (told_by number) tells.1)
 answered_so z f actor command HasCalled answer number tells well = sym (ap (told_by number) tells)
 answered_so z f actor command (HasToCopy frames count word) answer number tells well =
     sym (ap (told_by number) tells.1 ∙ copied_none number z command count f)
@@ -193,7 +197,12 @@ own_goes z f past actor u (Exited answer) may well = record {
   well = left_none z f actor u.line.command u.notes answer may.1;
 }
 own_goes z f past actor u (SlotChanged id slot) may well = record { counts = append-nil (open_access u) ∙ closed u Fresh may.0 refl; well = tt }
-own_goes z f past actor u (HostChanged page entry) may well = record { counts = append-nil (open_access u) ∙ closed u Fresh may.0 refl; well = tt }
+own_goes z f past actor u (HostChanged page entry) may well = record {
+  counts = append-nil (open_access u)
+      ∙ (changes_at (λ s. open_at u.line.number s ≡ []) refl (λ p l n. refl) z f past actor u page entry may
+      ∙ sym (each_change (λ s. open_at u.line.number s ≡ []) (λ e. refl) (λ p l n. refl) u.line.command f.host u.stage page entry));
+  well = each_change LeavesWell (λ e. tt) (λ p l n. tt) u.line.command f.host u.stage page entry;
+}
 own_goes z f past actor u (Armed id all) may well = record { counts = append-nil (open_access u) ∙ closed u HasChanged may.0 refl; well = tt }
 own_goes z f past actor u (Taken id) may well = record { counts = Q.0; well = Q.1 }
   where

@@ -63,13 +63,17 @@ scope_found pool set page true id slot start end_ apart starts ends there none =
           let same = ap (gfn_behind page) (apart page G.id id G.slot slot G.live T.0 G.has T.1) in
           let is = G.is in
           (omega (arith, is, same, starts), omega (arith, is, same, ends));
-      only = λ gfn within. (page, refl, record {
-        id = id;
-        slot = slot;
-        live = T.0;
-        has = T.1;
-        is = let low = within.0 in let high = within.1 in omega (arith, low, high, starts, ends);
-      });
+      only = λ gfn within. (
+        page,
+        refl,
+        record {
+          id = id;
+          slot = slot;
+          live = T.0;
+          has = T.1;
+          is = let low = within.0 in let high = within.1 in omega (arith, low, high, starts, ends);
+        },
+      );
     }
 scope_found pool set page false id slot start end_ apart starts ends there none = record {
   covers = λ other gfn on given.

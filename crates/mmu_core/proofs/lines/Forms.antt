@@ -2,6 +2,7 @@
 use Rattle.mmu_core.specs.forms.host.HostKnows.{is_move}
 use Rattle.mmu_core.proofs.forms.host.HostPlaces.{host_fed}
 use Rattle.core_views.specs.declared.trace.HostChange.{HostChange}
+use Rattle.core_views.specs.declared.trace.RunChange.{RunChange}
 use Rattle.core_views.specs.declared.trace.HostChange.TheVariants.{Move, Evict, Protect, Allow}
 use Rattle.std.proofs.Common.{◌≡◌, ◌⊎◌, ℕ, refl, ◌≢◌}
 use Rattle.std.specs.Prelude.{List, None, true, false}
@@ -14,7 +15,7 @@ use Rattle.core_views.specs.declared.topics.Topics.{Topics}
 use Rattle.core_views.specs.declared.trace.Command.{Command}
 use Rattle.core_views.specs.declared.actor.Actor.{Actor}
 use Rattle.core_views.specs.declared.actor.Actor.TheVariants.{Vcpu, Host, Manager, Worker}
-use Rattle.core_views.specs.declared.trace.Command.TheVariants.{Access, ChangeHost, ClearLog, DeleteSlot, GetLog, Migrate, SetLog, SetSlot}
+use Rattle.core_views.specs.declared.trace.Command.TheVariants.{Access, ChangeHost, ChangeRun, ClearLog, DeleteSlot, GetLog, Migrate, SetLog, SetSlot}
 use Rattle.core_views.specs.declared.trace.MigrationCall.{MigrationCall}
 use Rattle.core_views.specs.Traces.{IsCommandFor}
 use Rattle.core_views.specs.LogCommands.{read_refusal, takes_out}
@@ -142,6 +143,13 @@ no_migration z (Host n) call may = may
 no_migration z Manager call may = may
 no_migration z (Worker n) call may = may
 
+-- Nor is one of them one that sets a run of host pages.
+pub no_run : (z : Sizes) (actor : Actor) (page : ℕ) (change : RunChange) → IsCommandFor z actor (ChangeRun page change) → ⊥
+no_run z (Vcpu n) page change may = may
+no_run z (Host n) page change may = may
+no_run z Manager page change may = may
+no_run z (Worker n) page change may = may
+
 -- Its actor, which was at rest and owned no frame, knows what its first place asks; each slot of its record has a page.
 pub first_known : (z : Sizes) (actor : Actor) (command : Command) (h : Held) → IsCommandFor z actor command → IsAtRest h.topics
     → h.topics.frames.owned ≡ None → HavePages h.slots → KnowsPart (first_place h.state.sizes h.slots command) command h
@@ -153,6 +161,7 @@ first_known z actor (SetSlot id slot) h may R none some = (refl, slot_change_beg
 first_known z actor (DeleteSlot id) h may R none some = (refl, slot_change_begins_known h.state.sizes (DeleteSlot id) h R)
 first_known z actor (SetLog id on) h may R none some = (refl, slot_change_begins_known h.state.sizes (SetLog id on) h R)
 first_known z actor (Migrate call) h may R none some = absurd (no_migration z actor call may)
+first_known z actor (ChangeRun page change) h may R none some = absurd (no_run z actor page change may)
 
 -- Alone, it knows what its first place asks of the words.
 pub first_alone : (z : Sizes) (slots : MemorySlots) (command : Command) (words : Area → ℕ → ℕ) (t : Topics)

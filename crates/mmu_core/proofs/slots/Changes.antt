@@ -1,5 +1,5 @@
 -- What a line makes of the slots that it is to change: a clause for each command that changes one.
-use Rattle.std.proofs.Common.{◌≡◌, ◌≢◌, ◌⊎◌, inl, inr, ◌<◌, ◌≤◌, ◌^◌, ◌==◌, ℕ, Bool, List, [], ◌∷◌, length, refl, sym, subst, ap, ◌∙◌}
+use Rattle.std.proofs.Common.{◌≡◌, ◌≢◌, ◌⊎◌, inl, inr, ◌<◌, ◌≤◌, ◌^◌, ◌==◌, ℕ, Bool, List, [], ◌∷◌, refl, sym, subst, ap, ◌∙◌}
 use Rattle.std.specs.Option.{option_map}
 use Rattle.std.specs.Prelude.{All, Bool, ◌||◌, if◌then◌else◌, Option, Some, None, is_some, true, false}
 use Rattle.std.specs.List.{list_any}
@@ -9,10 +9,9 @@ use Rattle.core_views.specs.declared.place.Place.{Place}
 use Rattle.core_views.specs.declared.sizes.Sizes.{Sizes}
 use Rattle.core_views.specs.declared.memory_slot.MemorySlot.{MemorySlot}
 use Rattle.core_views.specs.declared.trace.Command.{Command}
-use Rattle.core_views.specs.declared.trace.Command.TheVariants.{Access, ChangeHost, ClearLog, DeleteSlot, GetLog, Migrate, SetLog, SetSlot}
+use Rattle.core_views.specs.declared.trace.Command.TheVariants.{Access, ChangeHost, ChangeRun, ClearLog, DeleteSlot, GetLog, Migrate, SetLog, SetSlot}
 use Rattle.core_views.specs.declared.trace.Line.{Line}
 use Rattle.core_views.specs.declared.trace.Slot.{Slot}
-use Rattle.core_views.specs.Held.{Held}
 use Rattle.core_views.proofs.SlotChanges.{none_refused}
 use Rattle.core_views.proofs.Sound.{deletion_low}
 use Rattle.core_views.specs.Refusals.{after_set, is_logged}
@@ -30,10 +29,8 @@ use Rattle.part_steps.specs.SetWords.{IsFilledWith, set_role, set_word}
 use Rattle.part_steps.specs.SlotWords.{memory_slots_below, slot_at}
 use Rattle.mmu_core.specs.invariant.Invariant.{Invariant, IsSetBy, RecordPart}
 use Rattle.mmu_core.specs.invariant.SlotSetPart.{AreSlots, Fits, IsLiveIn, SlotSetPart}
-use Rattle.mmu_core.specs.machine.Steps.{next_line}
 use Rattle.mmu_core.specs.machine.View.{View}
 use Rattle.part_steps.specs.PartHoldings.{OwnsSet}
-use Rattle.mmu_core.proofs.lines.LinesKept.{line_sets, set_by_at, set_by_with, set_by_without}
 use Rattle.mmu_core.proofs.machine.Columns.{same_or}
 use Rattle.mmu_core.proofs.machine.PartStepping.{AreAlikeBut}
 use Rattle.mmu_core.proofs.machine.Stepping.{IsStep}
@@ -54,6 +51,7 @@ change_is_managers z _ _ is may = absurd may
 pub is_change : (command : Command) (slots : MemorySlots) → changes_slot command ≡ true → is_some (slot_change slots command) ≡ true
 is_change (Access gfn word op) slots is = is
 is_change (ChangeHost page change) slots is = is
+is_change (ChangeRun page change) slots is = is
 is_change (SetSlot id slot) slots is = refl
 is_change (DeleteSlot id) slots is = refl
 is_change (SetLog id on) slots is = refl
@@ -67,6 +65,7 @@ pub change_small : (z : Sizes) (lines : List Line) (actor : Actor) (command : Co
     → All (λ line. IsCommandFor z line.actor line.command) lines → All (IsSetBy lines) slots → (j : ℕ) → set_word (slots_after command slots) j < 2 ^ 64
 change_small z lines actor (Access gfn word op) slots is may allowed set j = absurd (cc is)
 change_small z lines actor (ChangeHost page change) slots is may allowed set j = absurd (cc is)
+change_small z lines actor (ChangeRun page change) slots is may allowed set j = absurd (cc is)
 change_small z lines actor (SetSlot id slot) slots is may allowed set j =
     set_word_small id slot slots j (in_range z actor id slot may) (record_small z lines slots allowed set)
 change_small z lines actor (DeleteSlot id) slots is may allowed set j = set_word_fewer id slots j (record_small z lines slots allowed set)
@@ -180,6 +179,7 @@ pub change_publishes : (z : Sizes) (v : View) (a : ℕ) (line : Line) (command :
     → Publishes z (v.words area.Pool) (v.words area.Slots 0) (page_owned (v.hand a).topics.owned) command (v.hand a).slots
 change_publishes z v a line (Access gfn word op) p S changes I owns works filled = absurd (cc changes)
 change_publishes z v a line (ChangeHost page change) p S changes I owns works filled = absurd (cc changes)
+change_publishes z v a line (ChangeRun page change) p S changes I owns works filled = absurd (cc changes)
 change_publishes z v a line (SetSlot id slot) p S changes I owns works filled =
     let R = recorded_at z v a line (SetSlot id slot) p S changes I in
     slot_published z (v.words area.Pool) (v.words area.Slots 0) (page_owned (v.hand a).topics.owned) id slot (v.hand a).slots R
@@ -240,6 +240,7 @@ invalidated_live pool set slots command slot R is = by command is
     by : (command : Command) → slot_invalidated slots command ≡ Some slot → (id : ℕ) × IsLiveIn pool set id slot
     by (Access gfn word op) is = absurd (cc is)
     by (ChangeHost page change) is = absurd (cc is)
+    by (ChangeRun page change) is = absurd (cc is)
     by (SetSlot id new_) is = at_id id (slot_of_id id slots) refl is
     by (DeleteSlot id) is = at_id id (slot_of_id id slots) refl is
     by (SetLog id on) is = absurd (cc is)
@@ -274,27 +275,9 @@ armed_fits z pool set lines slots command slot R A allowed by_lines is = by comm
     by (SetLog id false) is = absurd (cc is)
     by (Access gfn word op) is = absurd (cc is)
     by (ChangeHost page change) is = absurd (cc is)
+    by (ChangeRun page change) is = absurd (cc is)
     by (SetSlot id new_) is = absurd (cc is)
     by (DeleteSlot id) is = absurd (cc is)
     by (GetLog id) is = absurd (cc is)
     by (Migrate call) is = absurd (cc is)
     by (ClearLog id first count words) is = absurd (cc is)
-
--- The slots after the change were set by the hand's lines.
-pub change_recorded : (h : Held) (command : Command) → length h.answers < length h.lines → (next_line h).command ≡ command → All (IsSetBy h.lines) h.slots
-    → All (IsSetBy h.lines) (slots_after command h.slots)
-change_recorded h (Access gfn word op) left is set = set
-change_recorded h (ChangeHost page change) left is set = set
-change_recorded h (SetSlot id slot) left is set =
-    set_by_with h.lines id (record { slot = slot; logged = is_logged id h.slots }) h.slots (line_sets (length h.answers) h.lines id slot left is) set
-change_recorded h (DeleteSlot id) left is set = set_by_without h.lines id h.slots set
-change_recorded h (SetLog id on) left is set = by (slot_of_id id h.slots) refl
-  where
-    by : (was : Option MemorySlot) → slot_of_id id h.slots ≡ was
-        → All (IsSetBy h.lines) (after_change (Some (id, logged_so on was)) h.slots)
-    by None at = set_by_without h.lines id h.slots set
-    by (Some was) at =
-        set_by_with h.lines id (record { slot = was.slot; logged = on }) h.slots (set_by_at h.lines id was h.slots at set) set
-change_recorded h (GetLog id) left is set = set
-change_recorded h (Migrate call) left is set = set
-change_recorded h (ClearLog id first count words) left is set = set

@@ -25,6 +25,11 @@ use Rattle.mmu_core.specs.lines.PartWaits.{saw_open, was_counted}
 use Rattle.mmu_core.specs.forms.slot_change.SlotChangeKnows.{Fits, HasMadeWay}
 use Rattle.mmu_core.specs.forms.slot_change.SlotChangeSteps.{slot_or_none}
 use Rattle.mmu_core.proofs.pages.Owned.{some_filled}
+use Rattle.core_views.specs.declared.trace.Command.{Command}
+use Rattle.core_views.specs.SlotCommands.{slot_invalidated}
+use Rattle.core_views.specs.SlotSets.{MemorySlots}
+use Rattle.mmu_core.specs.invariant.Invariant.{IsLiveIn, RecordPart}
+use Rattle.mmu_core.proofs.slots.Changes.{invalidated_live}
 
 -- ---- the slot that is moved
 
@@ -32,6 +37,15 @@ pub some_fits : (z : Sizes) (moved : Option Slot) → ((slot : Slot) → moved �
     → Fits z (slot_or_none moved)
 some_fits z None each some = absurd (cc some)
 some_fits z (Some slot) each some = each slot refl
+
+-- The slot that a line moves or deletes, if it does so, is live.
+pub way_live : (pool : ℕ → ℕ) (set : ℕ) (slots : MemorySlots) (command : Command) → RecordPart pool set slots → is_some (slot_invalidated slots command) ≡ true
+    → (id : ℕ) × IsLiveIn pool set id (slot_or_none (slot_invalidated slots command))
+way_live pool set slots command R some = by (slot_invalidated slots command) refl some
+  where
+    by : (o : Option Slot) → slot_invalidated slots command ≡ o → is_some o ≡ true → (id : ℕ) × IsLiveIn pool set id (slot_or_none o)
+    by None is some = absurd (cc some)
+    by (Some slot) is some = invalidated_live pool set slots command slot R is
 
 -- Who owns the page of a slot set may change no host page, and so invalidates a slot.
 pub owns_aimed : (slot : Slot) (t : Topics) → OwnsSet t → IsAimed (aim.Slot slot) t

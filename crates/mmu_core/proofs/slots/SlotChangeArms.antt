@@ -7,7 +7,7 @@ use Rattle.core_views.specs.SlotCommands.{arms, slot_armed, slot_invalidated, sl
 use Rattle.core_views.specs.SlotSets.{MemorySlots, slot_of_id}
 use Rattle.core_views.specs.declared.memory_slot.MemorySlot.{MemorySlot}
 use Rattle.std.specs.Option.{option_map}
-use Rattle.core_views.specs.declared.trace.Command.TheVariants.{Access, ChangeHost, ClearLog, DeleteSlot, GetLog, Migrate, SetLog, SetSlot}
+use Rattle.core_views.specs.declared.trace.Command.TheVariants.{Access, ChangeHost, ChangeRun, ClearLog, DeleteSlot, GetLog, Migrate, SetLog, SetSlot}
 use Rattle.mmu_core.specs.forms.slot_change.SlotChangeKnows.{ArmsThere}
 use Rattle.core_views.proofs.SlotLines.{log_here, logged_so}
 
@@ -17,6 +17,7 @@ armed_is slots (SetLog id true) slot is = refl
 armed_is slots (SetLog id false) slot is = absurd (cc is)
 armed_is slots (Access gfn word op) slot is = absurd (cc is)
 armed_is slots (ChangeHost page change) slot is = absurd (cc is)
+armed_is slots (ChangeRun page change) slot is = absurd (cc is)
 armed_is slots (SetSlot id new_) slot is = absurd (cc is)
 armed_is slots (DeleteSlot id) slot is = absurd (cc is)
 armed_is slots (GetLog id) slot is = absurd (cc is)
@@ -27,6 +28,7 @@ pub none_moved : (slots : MemorySlots) (command : Command) → arms command ≡ 
 none_moved slots (SetLog id on) is = refl
 none_moved slots (Access gfn word op) is = absurd (cc is)
 none_moved slots (ChangeHost page change) is = absurd (cc is)
+none_moved slots (ChangeRun page change) is = absurd (cc is)
 none_moved slots (SetSlot id new_) is = absurd (cc is)
 none_moved slots (DeleteSlot id) is = absurd (cc is)
 none_moved slots (GetLog id) is = absurd (cc is)
@@ -44,6 +46,7 @@ published_there slots (SetLog id true) there is =
 published_there slots (SetLog id false) there is = absurd (cc is)
 published_there slots (Access gfn word op) there is = absurd (cc is)
 published_there slots (ChangeHost page change) there is = absurd (cc is)
+published_there slots (ChangeRun page change) there is = absurd (cc is)
 published_there slots (SetSlot id new_) there is = absurd (cc is)
 published_there slots (DeleteSlot id) there is = absurd (cc is)
 published_there slots (GetLog id) there is = absurd (cc is)

@@ -16,7 +16,7 @@ use Rattle.core_views.specs.declared.event.EventKind.TheVariants.{LookedAtHost, 
 use Rattle.core_views.specs.declared.sizes.Sizes.{Sizes}
 use Rattle.core_views.specs.declared.memory_slot.MemorySlot.{MemorySlot}
 use Rattle.core_views.specs.declared.trace.Command.{Command}
-use Rattle.core_views.specs.declared.trace.Command.TheVariants.{Access, ChangeHost, ClearLog, GetLog, Migrate, SetLog}
+use Rattle.core_views.specs.declared.trace.Command.TheVariants.{Access, ChangeHost, ChangeRun, ClearLog, GetLog, Migrate, SetLog}
 use Rattle.core_views.specs.declared.trace.Slot.{Slot}
 use Rattle.core_views.specs.Actors.{is_same}
 use Rattle.core_views.specs.Events.{after, after_all, facts_after, under_after}
@@ -33,6 +33,7 @@ use Rattle.core_views.proofs.SlotChanges.{answered_by_slots}
 use Rattle.mmu_core.proofs.machine.Columns.{same_or}
 use Rattle.log_invariant.proofs.LogRecords.{with_log}
 use Rattle.mmu_laws.proofs.flat.ChangedSlots.{ChangeOf, change_of}
+use Rattle.core_views.proofs.RunStages.{changes_at}
 
 -- The line has given the slot with the ID a log, and is to arm it.
 pub record ArmsLater (u : LineUnderWay) (id : ℕ) : Type 0 where
@@ -66,7 +67,8 @@ does_nothing_else z f past actor u (Taken i) id may L = absurd (elim may [
   | inl alone ↦ let at = alone.0 in let is = L.stage in cc (at, is)
   | inr next ↦ cc (subst (λ stage. logs_left f.slots u.line.command stage ≡ i ∷ next.ids) L.stage next.left)
 ])
-does_nothing_else z f past actor u (HostChanged page entry) id may L = absurd (let at = may.0 in let is = L.stage in cc (at, is))
+does_nothing_else z f past actor u (HostChanged page entry) id may L =
+    absurd (changes_at (λ s. s ≡ HasChanged → ⊥) (λ e. cc e) (λ p l n e. cc e) z f past actor u page entry may L.stage)
 does_nothing_else z f past actor u (Harvested i frames) id may L = absurd (elim may [
   | inl alone ↦ let at = alone.begun in let is = L.stage in cc (at, is)
   | inr next ↦ let at = next.begun in let is = L.stage in cc (at, is)
@@ -83,6 +85,7 @@ does_nothing_else z f past actor u Resumed id may L = absurd (let at = may.0 in 
 changing : (command : Command) (slots : MemorySlots) (change : ℕ × Option MemorySlot) → slot_change slots command ≡ Some change → changes_slot command ≡ true
 changing (Access gfn word op) slots change is = absurd (cc is)
 changing (ChangeHost page change_) slots change is = absurd (cc is)
+changing (ChangeRun page change_) slots change is = absurd (cc is)
 changing (GetLog id) slots change is = absurd (cc is)
 changing (Migrate call) slots change is = absurd (cc is)
 changing (ClearLog id first count words) slots change is = absurd (cc is)

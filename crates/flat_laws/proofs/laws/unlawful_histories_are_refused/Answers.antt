@@ -11,6 +11,7 @@ use Rattle.core_views.specs.Host.{own_frames}
 use Rattle.core_views.specs.HostChanges.{Changes}
 use Rattle.flat_laws.specs.HostExamples.{host_sizes}
 use Rattle.core_views.specs.Slots.{Slots, page_behind}
+use Rattle.core_views.proofs.RunStages.{only_one}
 use Rattle.flat_laws.proofs.laws.unlawful_histories_are_refused.Goals as goal
 
 -- The slot line is begun, sets its slot, and is answered; then the other line begins.
@@ -77,10 +78,13 @@ no_move change asked is =
     absurd (cc taken.2)
 
 pub returns-clause-named : goal.returns-clause-named
-returns-clause-named c lawful = let may = lawful.1.1.0.1 in no_move may.change may.asked may.changes
+returns-clause-named c lawful =
+    only_one lawful.1.1.0 (λ may. no_move may.1.change may.1.asked may.1.changes) (λ may. let asked = may.1.asked in cc asked) (λ may. let is = may.stands in cc is)
 
 pub returns-clause-others : goal.returns-clause-others
-returns-clause-others c lawful = absurd (cc lawful.1.1.0.1.works)
+returns-clause-others c lawful =
+    only_one lawful.1.1.0 (λ may. let works = may.1.works in cc works) (λ may. let asked = may.1.asked in cc asked) (λ may. let is = may.stands in cc is)
 
 pub returns-clause-unseen : goal.returns-clause-unseen
-returns-clause-unseen c lawful = absurd (cc lawful.1.1.0.1.looked)
+returns-clause-unseen c lawful =
+    only_one lawful.1.1.0 (λ may. let looked = may.1.looked in cc looked) (λ may. let asked = may.1.asked in cc asked) (λ may. let is = may.stands in cc is)

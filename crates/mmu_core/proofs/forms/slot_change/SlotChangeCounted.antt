@@ -7,7 +7,7 @@ use Rattle.core_views.specs.declared.sizes.Sizes.{Sizes}
 use Rattle.core_views.specs.declared.topics.Topics.{Topics}
 use Rattle.core_views.specs.declared.trace.Slot.{Slot}
 use Rattle.core_views.specs.declared.trace.Command.{Command}
-use Rattle.core_views.specs.declared.trace.Command.TheVariants.{Access, ChangeHost, ClearLog, DeleteSlot, GetLog, Migrate, SetLog, SetSlot}
+use Rattle.core_views.specs.declared.trace.Command.TheVariants.{Access, ChangeHost, ChangeRun, ClearLog, DeleteSlot, GetLog, Migrate, SetLog, SetSlot}
 use Rattle.core_views.specs.Held.{Held}
 use Rattle.core_views.specs.Sizes.{actors_of}
 use Rattle.core_views.specs.SlotCommands.{arms, slot_invalidated}
@@ -27,6 +27,7 @@ none_armed : (slots : MemorySlots) (command : Command) (z : Sizes) → is_some (
 none_armed slots (SetLog id on) z some = absurd (cc some)
 none_armed slots (Access gfn word op) z some = refl
 none_armed slots (ChangeHost page change) z some = refl
+none_armed slots (ChangeRun page change) z some = refl
 none_armed slots (SetSlot id slot) z some = refl
 none_armed slots (DeleteSlot id) z some = refl
 none_armed slots (GetLog id) z some = refl
@@ -44,6 +45,7 @@ besides_few (SetLog id true) z = omega arith
 besides_few (SetLog id false) z = omega arith
 besides_few (Access gfn word op) z = omega arith
 besides_few (ChangeHost page change) z = omega arith
+besides_few (ChangeRun page change) z = omega arith
 besides_few (SetSlot id slot) z = omega arith
 besides_few (DeleteSlot id) z = omega arith
 besides_few (GetLog id) z = omega arith
@@ -56,6 +58,7 @@ armed_most (SetLog id true) z is = omega arith
 armed_most (SetLog id false) z is = absurd (cc is)
 armed_most (Access gfn word op) z is = absurd (cc is)
 armed_most (ChangeHost page change) z is = absurd (cc is)
+armed_most (ChangeRun page change) z is = absurd (cc is)
 armed_most (SetSlot id slot) z is = absurd (cc is)
 armed_most (DeleteSlot id) z is = absurd (cc is)
 armed_most (GetLog id) z is = absurd (cc is)
@@ -67,6 +70,7 @@ invalidated_most : (slots : MemorySlots) (c : Command) (z : Sizes) → is_some (
 invalidated_most slots (SetLog id on) z some = absurd (cc some)
 invalidated_most slots (Access gfn word op) z some = omega arith
 invalidated_most slots (ChangeHost page change) z some = omega arith
+invalidated_most slots (ChangeRun page change) z some = omega arith
 invalidated_most slots (SetSlot id slot) z some = omega arith
 invalidated_most slots (DeleteSlot id) z some = omega arith
 invalidated_most slots (GetLog id) z some = omega arith

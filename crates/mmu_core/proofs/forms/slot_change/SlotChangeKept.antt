@@ -29,7 +29,8 @@ use Rattle.mmu_core.specs.machine.Steps.{state_at}
 use Rattle.part_steps.specs.Tasks.{kind_of_task}
 use Rattle.mmu_core.specs.invariant.TopicsInvariant.{TopicsInvariant}
 use Rattle.mmu_core.specs.machine.View.{View, answer_in, hand_after, stepped, words_after}
-use Rattle.mmu_core.proofs.slots.Changes.{Publishes, change_is_managers, change_publishes, change_recorded, recorded_at}
+use Rattle.mmu_core.proofs.slots.ChangeRecorded.{change_recorded}
+use Rattle.mmu_core.proofs.slots.Changes.{Publishes, change_is_managers, change_publishes, recorded_at}
 use Rattle.mmu_core.proofs.machine.PartStepping.{IsPart, is_publish}
 use Rattle.mmu_core.proofs.pages.Owned.{OwnsWhole, set_owned}
 use Rattle.mmu_core.specs.declared.outcome.Outcome.TheVariants.{Goes}

@@ -7,7 +7,7 @@ use Rattle.part_steps.specs.PartHoldings.{own_open}
 use Rattle.mmu_core.specs.orders.ClaimSteps.{Pages}
 use Rattle.mmu_core.specs.orders.InvalidateKnows.{BeginKnows, IsFlushedOut}
 use Rattle.mmu_core.specs.orders.InvalidateSteps.{begin_part}
-use Rattle.mmu_core.specs.forms.slot_change.SlotChangeKnows.{ArmsSlot, Fits, IsInLog, SlotChangeRests}
+use Rattle.mmu_core.specs.forms.slot_change.SlotChangeKnows.{ArmsSlot, Fits, IsInLog}
 use Rattle.mmu_core.specs.machine.Sums.{one_if}
 use Rattle.mmu_core.proofs.forms.access.AccessParts.{AreSmall}
 use Rattle.mmu_core.proofs.orders.ClaimMade.{claim_is}
@@ -36,38 +36,35 @@ use Rattle.core_views.specs.declared.place.FrameRange.{FrameRange}
 use Rattle.core_views.specs.declared.place.WriteProtectPlace.{WriteProtectPlace}
 use Rattle.core_views.specs.declared.place.WriteProtectPlace.TheVariants as protect
 use Rattle.core_views.specs.declared.memory_slot.MemorySlot.{MemorySlot}
-use Rattle.core_views.specs.declared.trace.Command.TheVariants.{Access, ChangeHost, ClearLog, DeleteSlot, GetLog, Migrate, SetLog, SetSlot}
+use Rattle.core_views.specs.declared.trace.Command.TheVariants.{Access, ChangeHost, ChangeRun, ClearLog, DeleteSlot, GetLog, Migrate, SetLog, SetSlot}
 use Rattle.core_views.specs.Refusals.{is_logged, log_refusal}
 use Rattle.core_views.specs.Slots.{first_of, is_some_and}
-use Rattle.core_views.specs.SlotSets.{MemorySlots, slot_of_id}
+use Rattle.core_views.specs.SlotSets.{slot_of_id}
 use Rattle.core_views.proofs.SlotChanges.{logged_there, none_refused}
 use Rattle.part_steps.specs.LogHoldings.{is_in_log, log_begin, log_end}
 use Rattle.mmu_core.specs.invariant.Invariant.{IsLiveIn, RecordPart}
 use Rattle.mmu_core.specs.orders.WriteProtectSteps.{protect_part}
 use Rattle.std.specs.Option.{option_map}
-use Rattle.spte_words.specs.declared.area.Area.{Area}
 use Rattle.spte_words.specs.declared.area.Area.TheVariants as area
-use Rattle.part_steps.specs.PartTasks.{own_index, page_owned, words_filled}
-use Rattle.mmu_core.specs.forms.slot_change.SlotChangeSteps.{slot_change_note, slot_change_part, slot_change_task, slot_or_none, slot_target}
+use Rattle.part_steps.specs.PartTasks.{page_owned, words_filled}
+use Rattle.mmu_core.specs.forms.slot_change.SlotChangeSteps.{slot_change_part, slot_change_task, slot_or_none, slot_target}
 use Rattle.mmu_core.specs.invariant.TopicsInvariant.{TopicsInvariant}
 use Rattle.mmu_core.specs.machine.View.{View, answer_in}
-use Rattle.mmu_core.proofs.slots.Changes.{Publishes, armed_fits, change_is_managers, change_small, invalidated_fits, invalidated_live}
+use Rattle.mmu_core.proofs.slots.Changes.{Publishes, armed_fits, change_is_managers, change_small, invalidated_fits}
 use Rattle.mmu_core.proofs.slots.Changes.{recorded_fits, some_slot}
 use Rattle.mmu_core.proofs.words.SmallSlots.{has_page, record_is_so}
 use Rattle.mmu_core.proofs.slots.LogsApart.{logs_apart}
 use Rattle.mmu_core.proofs.machine.PartStepping.{AreApart, Replaces}
-use Rattle.part_steps.specs.PartBounds.{PartRests}
 use Rattle.mmu_core.proofs.invariant.PartBounded.{part_rests_at}
 use Rattle.part_steps.specs.PartSteps.{PartNeeds}
-use Rattle.mmu_core.proofs.forms.access.FaultKnown.{parts_answer}
-use Rattle.mmu_core.specs.invariant.Invariant.{Invariant, KnowsPart, RetiresPart}
+use Rattle.mmu_core.specs.invariant.Invariant.{Invariant}
 use Rattle.mmu_core.proofs.lines.EitherPlace.{either_place}
-use Rattle.mmu_core.proofs.lines.KnowsKept.{KnowsAfter, step_knows, step_leaves}
-use Rattle.mmu_core.proofs.lines.StepTopics.{knows_by}
+use Rattle.mmu_core.proofs.lines.KnowsKept.{step_knows, step_leaves}
 use Rattle.mmu_core.proofs.machine.Stepping.{IsStep}
-use Rattle.mmu_core.proofs.forms.slot_change.SlotChangeKnown.{WordsSay, slot_change_known}
-use Rattle.mmu_core.proofs.forms.slot_change.SlotChangeNeeds.{slot_change_needs, slot_change_rests}
+use Rattle.mmu_core.proofs.forms.slot_change.SlotChangeKnown.{WordsSay}
+use Rattle.mmu_core.proofs.forms.slot_change.SlotChangeNeeds.{slot_change_needs}
 use Rattle.mmu_core.proofs.forms.slot_change.SlotChangeKept.{change_published, record_of}
+use Rattle.mmu_core.proofs.slots.MadeWay.{way_live}
 
 -- A slot set that is published has each slot of the one before it, or that is moved, and flushed out.
 change_replaced : (z : Sizes) (v : View) (a : ℕ) (line : Line) (command : Command) → IsStep z v a line command (place.SlotChange Publish) → Invariant z v
@@ -93,15 +90,6 @@ change_replaced z v a line command S I = record {
     by : {A : Type 0} (slot : Slot) → A ⊎ (slot_invalidated h.slots command ≡ Some slot) → A ⊎ IsFlushedOut z.vcpus slot h.topics
     by slot (inl stays) = inl stays
     by slot (inr moves) = inr (flushed slot moves)
-
--- The slot that a line moves or deletes, if it does so, is live.
-way_live : (pool : ℕ → ℕ) (set : ℕ) (slots : MemorySlots) (command : Command) → RecordPart pool set slots → is_some (slot_invalidated slots command) ≡ true
-    → (id : ℕ) × IsLiveIn pool set id (slot_or_none (slot_invalidated slots command))
-way_live pool set slots command R some = by (slot_invalidated slots command) refl some
-  where
-    by : (o : Option Slot) → slot_invalidated slots command ≡ o → is_some o ≡ true → (id : ℕ) × IsLiveIn pool set id (slot_or_none o)
-    by None is some = absurd (cc some)
-    by (Some slot) is some = invalidated_live pool set slots command slot R is
 
 -- One more invalidation may be counted, and the sequence number is small, where a step of an invalidation is to say so.
 module _ (z : Sizes) (v : View) (a : ℕ) (t : Topics) where
@@ -239,6 +227,7 @@ arms_slot z v a line command S I some = by command refl some
     by (SetLog id false) is some = absurd (cc some)
     by (Access gfn word op) is some = absurd (cc some)
     by (ChangeHost page change) is some = absurd (cc some)
+    by (ChangeRun page change) is some = absurd (cc some)
     by (SetSlot id new_) is some = absurd (cc some)
     by (DeleteSlot id) is some = absurd (cc some)
     by (GetLog id) is some = absurd (cc some)
@@ -257,6 +246,7 @@ armed_there z v a line command S I is = by command refl is
     by (SetLog id false) at is = absurd (cc is)
     by (Access gfn word op) at is = absurd (cc is)
     by (ChangeHost page change) at is = absurd (cc is)
+    by (ChangeRun page change) at is = absurd (cc is)
     by (SetSlot id new_) at is = absurd (cc is)
     by (DeleteSlot id) at is = absurd (cc is)
     by (GetLog id) at is = absurd (cc is)
@@ -281,16 +271,6 @@ change_said z v a line p command S I P = record {
   arms_slot = λ is some. arms_slot z v a line command (subst (λ q. IsStep z v a line command (place.SlotChange q)) is S) I some;
 }
 
-pub own_slot_change : (p : SlotChangePlace) (line : Line) (h : Held) (command : Command) (words : Area → ℕ → ℕ) → PartRests h
-    → KnowsPart (place.SlotChange p) command h → RetiresPart (place.SlotChange p) h.topics → PartNeeds (slot_change_part p h command) h
-    → WordsSay p command h (answer_in (slot_change_task p h command) words)
-    → KnowsAfter line command (place.SlotChange p) h (answer_in (slot_change_task p h command) words)
-own_slot_change p line h command words R K left N W =
-    let v : ℕ = answer_in (slot_change_task p h command) words in
-    let A = parts_answer (slot_change_part p h command) (own_index h) h.topics (slot_change_note p h) words in
-    knows_by (place.SlotChange p) line command h v (K.0, N, slot_change_rests p command h K.1)
-    (λ cached. slot_change_known line h command cached v K.0 p R K.1 left W A)
-
 -- Its step has what it needs.
 pub change_needs : (z : Sizes) (v : View) (a : ℕ) (line : Line) (p : SlotChangePlace) (command : Command)
     → IsStep z v a line command (place.SlotChange p) → Invariant z v → TopicsInvariant z v
@@ -301,8 +281,3 @@ change_needs z v a line p command S I P =
     slot_change_needs p h command
     (change_small z h.lines line.actor command h.slots K.0 S.allowed (I.lines a S.there).allowed (I.lines a S.there).set (words_filled h.topics.owned))
     (part_rests_at z v a I P S.there) K.1 (step_leaves z v a line command (place.SlotChange p) S I)
-
--- And so has what it asks besides.
-pub change_rests : (z : Sizes) (v : View) (a : ℕ) (line : Line) (p : SlotChangePlace) (command : Command)
-    → IsStep z v a line command (place.SlotChange p) → Invariant z v → SlotChangeRests p command (v.hand a)
-change_rests z v a line p command S I = slot_change_rests p command (v.hand a) (step_knows z v a line command (place.SlotChange p) S I).1

@@ -15,7 +15,7 @@ use Rattle.core_views.specs.declared.place.SlotChangePlace.{SlotChangePlace}
 use Rattle.core_views.specs.declared.place.SlotChangePlace.TheVariants.{AtOnce, Claim, Fill, Begin, Publish, Release, End, Watch, WriteProtect, Clear, Give}
 use Rattle.core_views.specs.declared.sizes.Sizes.{Sizes}
 use Rattle.core_views.specs.declared.trace.Command.{Command}
-use Rattle.core_views.specs.declared.trace.Command.TheVariants.{Access, ChangeHost, ClearLog, DeleteSlot, GetLog, Migrate, SetLog, SetSlot}
+use Rattle.core_views.specs.declared.trace.Command.TheVariants.{Access, ChangeHost, ChangeRun, ClearLog, DeleteSlot, GetLog, Migrate, SetLog, SetSlot}
 use Rattle.core_views.specs.Held.{Held}
 use Rattle.core_views.specs.SlotCommands.{at_once, change_at_once, changes_slot, is_unchanged}
 use Rattle.core_views.specs.SlotSets.{MemorySlots, flat_slots, slot_of_id}
@@ -119,6 +119,7 @@ none_for_frames ((false, refusal) ∷ rows) same S = none_for_frames rows same S
 never_for_frames : (z : Sizes) (command : Command) (slots : MemorySlots) → for_frames (change_at_once z command slots) ≡ false
 never_for_frames z (Access gfn word op) slots = refl
 never_for_frames z (ChangeHost page change) slots = refl
+never_for_frames z (ChangeRun page change) slots = refl
 never_for_frames z (SetSlot id slot) slots = none_for_frames (
     (nat_lt 31 id, BadId)
     ∷ (is_too_large z.pages slot, TooLarge)

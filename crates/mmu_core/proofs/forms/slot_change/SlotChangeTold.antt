@@ -16,7 +16,7 @@ use Rattle.core_views.specs.declared.place.SlotChangePlace.TheVariants.{AtOnce, 
 use Rattle.core_views.specs.declared.memory_slot.MemorySlot.{MemorySlot}
 use Rattle.core_views.specs.declared.trace.Slot.{Slot}
 use Rattle.core_views.specs.declared.trace.Command.{Command}
-use Rattle.core_views.specs.declared.trace.Command.TheVariants.{Access, ChangeHost, ClearLog, DeleteSlot, GetLog, Migrate, SetLog, SetSlot}
+use Rattle.core_views.specs.declared.trace.Command.TheVariants.{Access, ChangeHost, ChangeRun, ClearLog, DeleteSlot, GetLog, Migrate, SetLog, SetSlot}
 use Rattle.core_views.specs.Held.{Held}
 use Rattle.core_views.specs.SlotCommands.{slot_armed, slot_change, changes_slot}
 use Rattle.part_steps.specs.ControlBits.{has_to_flush}
@@ -73,6 +73,7 @@ module _ (h : Held) (command : Command) (v : ℕ) where
   arms_told (SetLog id false) = Nothing
   arms_told (Access gfn word op) = Nothing
   arms_told (ChangeHost page change) = Nothing
+  arms_told (ChangeRun page change) = Nothing
   arms_told (SetSlot id slot) = Nothing
   arms_told (DeleteSlot id) = Nothing
   arms_told (GetLog id) = Nothing
@@ -89,6 +90,7 @@ module _ (h : Held) (command : Command) (v : ℕ) where
   clean_told range (SetLog id false) seen last = Nothing
   clean_told range (Access gfn word op) seen last = Nothing
   clean_told range (ChangeHost page change) seen last = Nothing
+  clean_told range (ChangeRun page change) seen last = Nothing
   clean_told range (SetSlot id slot) seen last = Nothing
   clean_told range (DeleteSlot id) seen last = Nothing
   clean_told range (GetLog id) seen last = Nothing

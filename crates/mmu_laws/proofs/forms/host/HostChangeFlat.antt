@@ -1,5 +1,5 @@
 -- What the exchange of a host word owes flat memory: its page is changed so, and memory stays, since a page that is moved has its words in its new frame.
-use Rattle.std.proofs.Common.{◌≡◌, ◌<◌, ℕ, [], ◌∷◌, Bool, true, false, refl, sym, subst, ap, ◌∙◌}
+use Rattle.std.proofs.Common.{◌≡◌, inl, ◌<◌, ℕ, [], ◌∷◌, Bool, true, false, refl, sym, subst, ap, ◌∙◌}
 use Rattle.std.specs.Prelude.{◌==◌, if◌then◌else◌, Some, nat_lt}
 use Rattle.core_views.specs.declared.event.EventKind.TheVariants.{HostChanged}
 use Rattle.core_views.specs.declared.place.EndPlace.TheVariants as ends
@@ -42,6 +42,7 @@ use Rattle.mmu_laws.proofs.forms.host.ExchangeFlat.{lost_maps, memory_moves, won
 use Rattle.mmu_laws.proofs.flat.FlatSteps.{GoesBy, RefinesBy, goes_by}
 use Rattle.mmu_laws.proofs.forms.host.HostEntries.{moved_to, revised_entry, revised_frame, still_agree}
 use Rattle.mmu_laws.proofs.forms.host.HostReady.{HostTask, ReadyHost, host_after, host_after_is, host_at_once, host_page_low}
+use Rattle.core_views.proofs.RunStages.{changed_one}
 
 -- The words of the frame into which all was copied are those of the page.
 all_copied : (z : Sizes) (content : ℕ → ℕ) (t : Topics) (o : OwnedFrame) (j : ℕ) → IsCopied z.words content t o → o.filled ≡ z.words → j < z.words
@@ -132,13 +133,14 @@ module _ (z : Sizes) (v : View) (a : ℕ) (line : Line) (page : ℕ) (change : H
   change_won K S I P C M is won R =
       let now_ : facts.host page ≡ entry_of looked =
       R.refines.host page (host_page_low z v a line page change facts past u I S.there K.0.own_) ∙ ap entry_of (ap (v.words area.Host) (sym K.0.at) ∙ won) in
+      let asked : u.line.command ≡ ChangeHost page change = ap (λ (l : Line). l.command) R.under.0 ∙ S.command_is in
       record {
         allowed = (
-          (
+          inl (
             R.under.1.0,
             record {
               change = change;
-              asked = ap (λ (l : Line). l.command) R.under.0 ∙ S.command_is;
+              asked = asked;
               works = host_at_once z v a line page change facts past u Change true S I R.under.0 K.0.own_;
               seen = R.under.1.1.0;
               looked = R.under.1.1.1;
@@ -150,7 +152,11 @@ module _ (z : Sizes) (v : View) (a : ℕ) (line : Line) (page : ℕ) (change : H
           tt,
         );
         refines = changed_refines K M C won R;
-        under = (R.under.0, ap (λ (w : ℕ). HasChangedHost (entry_of w)) (sym (looked_now M true is)));
+        under = (
+          R.under.0,
+          changed_one u.line.command facts.host u.stage page (entry_of put) page change R.under.1.0 asked
+              ∙ ap (λ (w : ℕ). HasChangedHost (entry_of w)) (sym (looked_now M true is)),
+        );
       }
 
   -- Where the page was brought in meanwhile it has changed nothing, and tries again.

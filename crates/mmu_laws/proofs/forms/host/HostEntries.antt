@@ -58,9 +58,12 @@ answers_moved _ page entry moves = absurd (cc moves)
 
 -- What was seen agrees with what is, where the two are the same.
 pub same_agree : (seen now_ : HostEntry) → seen ≡ now_ → Agree seen now_
-same_agree seen now_ is =
-    (ap (λ (e : HostEntry). e.frame) is, ap (λ (e : HostEntry). e.writable) is, ap (λ (e : HostEntry). e.level) is,
-    λ there. sym (ap (λ (e : HostEntry). e.present) is) ∙ there)
+same_agree seen now_ is = (
+  ap (λ (e : HostEntry). e.frame) is,
+  ap (λ (e : HostEntry). e.writable) is,
+  ap (λ (e : HostEntry). e.level) is,
+  λ there. sym (ap (λ (e : HostEntry). e.present) is) ∙ there,
+)
 
 -- And where the page was brought in since.
 pub still_agree : (seen : HostEntry) (word now_ : ℕ) → Agree seen (entry_of word) → IsStill word now_ → Agree seen (entry_of now_)

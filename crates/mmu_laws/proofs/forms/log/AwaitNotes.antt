@@ -8,7 +8,7 @@ use Rattle.core_views.specs.declared.place.LogPlace.TheVariants.{AtOnce, Await, 
 use Rattle.core_views.specs.declared.place.Place.{Place}
 use Rattle.core_views.specs.declared.place.Place.TheVariants as place
 use Rattle.core_views.specs.declared.trace.Command.{Command}
-use Rattle.core_views.specs.declared.trace.Command.TheVariants.{Access, ChangeHost, ClearLog, GetLog, Migrate}
+use Rattle.core_views.specs.declared.trace.Command.TheVariants.{Access, ChangeHost, ChangeRun, ClearLog, GetLog, Migrate}
 use Rattle.core_views.specs.Held.{Held}
 use Rattle.core_views.specs.LogCommands.{log_read}
 use Rattle.core_views.specs.SlotCommands.{changes_slot}
@@ -39,6 +39,7 @@ awaits_without Frames = refl
 pub changes_no_log : (command : Command) → changes_slot command ≡ true → is_some (log_read command) ≡ true → ⊥
 changes_no_log (Access gfn word op) changes reads = cc changes
 changes_no_log (ChangeHost page change) changes reads = cc changes
+changes_no_log (ChangeRun page change) changes reads = cc changes
 changes_no_log (GetLog id) changes reads = cc changes
 changes_no_log (Migrate call) changes reads = cc changes
 changes_no_log (ClearLog id first count words) changes reads = cc changes

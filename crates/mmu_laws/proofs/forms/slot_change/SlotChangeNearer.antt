@@ -25,7 +25,7 @@ use Rattle.core_views.specs.declared.trace.Command.{Command}
 use Rattle.core_views.specs.Held.{Held}
 use Rattle.core_views.specs.Sizes.{actors_of}
 use Rattle.core_views.specs.SlotCommands.{arms, slot_armed, slot_invalidated}
-use Rattle.core_views.specs.declared.trace.Command.TheVariants.{Access, ChangeHost, ClearLog, DeleteSlot, GetLog, Migrate, SetLog, SetSlot}
+use Rattle.core_views.specs.declared.trace.Command.TheVariants.{Access, ChangeHost, ChangeRun, ClearLog, DeleteSlot, GetLog, Migrate, SetLog, SetSlot}
 use Rattle.spte_words.specs.Areas.{words_of_bits}
 use Rattle.mmu_core.specs.declared.invalidate.BeginNext.{BeginNext}
 use Rattle.mmu_core.specs.declared.invalidate.BeginNext.TheVariants as begins_next
@@ -65,6 +65,7 @@ invalidates : (slots : MemorySlots) (c : Command) (z : Sizes) → is_some (slot_
 invalidates slots (SetLog id on) z some = absurd (cc some)
 invalidates slots (Access gfn word op) z some = refl
 invalidates slots (ChangeHost page change) z some = refl
+invalidates slots (ChangeRun page change) z some = refl
 invalidates slots (SetSlot id slot) z some = refl
 invalidates slots (DeleteSlot id) z some = refl
 invalidates slots (GetLog id) z some = refl
@@ -76,6 +77,7 @@ arms_some slots (SetLog id true) some = refl
 arms_some slots (SetLog id false) some = absurd (cc some)
 arms_some slots (Access gfn word op) some = absurd (cc some)
 arms_some slots (ChangeHost page change) some = absurd (cc some)
+arms_some slots (ChangeRun page change) some = absurd (cc some)
 arms_some slots (SetSlot id slot) some = absurd (cc some)
 arms_some slots (DeleteSlot id) some = absurd (cc some)
 arms_some slots (GetLog id) some = absurd (cc some)
