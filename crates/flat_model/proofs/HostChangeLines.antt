@@ -18,16 +18,14 @@ use Rattle.core_views.specs.declared.sizes.Sizes.{Sizes}
 use Rattle.core_views.specs.Events.{facts_after_all}
 use Rattle.core_views.specs.Flat.{Facts}
 use Rattle.core_views.specs.FlatHistory.{alone, answers, by, changing_host, doing, doing_by, looks, moving, unless_huge}
-use Rattle.core_views.specs.Host.{HostMap, is_huge, mapping}
+use Rattle.core_views.specs.Host.{is_huge, mapping}
 use Rattle.core_views.specs.HostChanges.{host_answer, is_own, lowest_free}
 use Rattle.core_views.specs.Text.{answers_of}
 use Rattle.core_views.proofs.HostLines.{owned_answer}
-use Rattle.core_views.specs.Refusals.{is_logged}
-use Rattle.flat_model.specs.Dirty.{is_dirty}
 use Rattle.flat_model.specs.HostPages.{Changed, ChangesTo, ChangesUnlessHuge, entry_after, host_of}
-use Rattle.flat_model.specs.Kept.{ContentWords, GivesLine, Kept, facts_of, memory_of}
+use Rattle.flat_model.specs.Kept.{GivesLine, Kept, facts_of}
 use Rattle.flat_model.specs.Steps.{ChangesHost}
-use Rattle.flat_model.proofs.SameFacts.{same_facts}
+use Rattle.flat_model.proofs.SameFacts.{with_host}
 
 -- what the line does once it has looked, by the entry that it gives the page
 abbrev events_of : Line → ℕ → HostChange → Option HostEntry → List Event
@@ -55,24 +53,17 @@ abbrev answered : Line → Answer → List AnsweredLine
 answered line answer = record { number = line.number; actor = line.actor; answer = answer } ∷ []
 
 module _ (line : Line) (page : ℕ) (change : HostChange) (before after : Kept) (answer : Answer) where
-  -- All else stays.
-  with_host : (host : HostMap) → ((other : ℕ) → host_of after.changed other ≡ host other) → after.slots ≡ before.slots → after.words ≡ before.words
-      → after.dirty ≡ before.dirty → after.copies ≡ before.copies → facts_of after ≡ (let facts : Facts = record (facts_of before) { host = host } in facts)
-  with_host host maps slots words dirty copies =
-      same_facts _ _ _ _ _ _ _ _ _ _ _ _ slots maps (λ p w. ap (λ (ws : ContentWords). memory_of ws p w) words) (λ id. ap (is_logged id) slots)
-      (λ gfn. ap (λ (frames : List ℕ). is_dirty frames gfn) dirty) copies
-
   by_change : (o : Option HostEntry) → ChangesTo page change before.changed after.changed answer o → after.slots ≡ before.slots → after.words ≡ before.words
       → after.dirty ≡ before.dirty → after.copies ≡ before.copies
       → alone before.sizes line (facts_of before) ≡ by line (Begun line) ∷ by line (LookedAtHost page) ∷ events_of line page change o
       → GivesLine before.sizes line (facts_of before) (facts_of after) answer
   by_change None done slots words dirty copies whole = record {
-    leads = with_host (host_of before.changed) (λ p. ap (λ (c : Changed). host_of c p) done.1) slots words dirty copies
+    leads = with_host before after (host_of before.changed) (λ p. ap (λ (c : Changed). host_of c p) done.1) slots words dirty copies
         ∙ sym (ap (λ (es : List Event). facts_after_all es (facts_of before)) whole);
     tells = ap answers_of whole ∙ ap (answered line) (sym done.0);
   }
   by_change (Some entry) done slots words dirty copies whole = record {
-    leads = with_host (mapping page entry (host_of before.changed)) done.1 slots words dirty copies
+    leads = with_host before after (mapping page entry (host_of before.changed)) done.1 slots words dirty copies
         ∙ sym (ap (λ (es : List Event). facts_after_all es (facts_of before)) whole);
     tells = ap answers_of whole ∙ ap (answered line) (sym done.0);
   }
@@ -84,7 +75,7 @@ module _ (line : Line) (page : ℕ) (change : HostChange) (before after : Kept) 
       ∷ unless_huge line huge (changing_host before.sizes line page change (facts_of before))
       → GivesLine before.sizes line (facts_of before) (facts_of after) answer
   by_size true done slots words dirty copies whole = record {
-    leads = with_host (host_of before.changed) (λ p. ap (λ (c : Changed). host_of c p) done.1) slots words dirty copies
+    leads = with_host before after (host_of before.changed) (λ p. ap (λ (c : Changed). host_of c p) done.1) slots words dirty copies
         ∙ sym (ap (λ (es : List Event). facts_after_all es (facts_of before)) whole);
     tells = ap answers_of whole ∙ ap (answered line) (sym done.0);
   }

@@ -7,11 +7,14 @@ pub mod Frames
 pub mod HostChangeLines
 pub mod HostFrames
 pub mod HostLines
+pub mod HostRunLines
+pub mod HostRuns
 pub mod LogLines
 pub mod LogWords
 pub mod MadeChanges
 pub mod MigrationLines
 pub mod MigrationWords
+pub mod OwnedRuns
 pub mod SameFacts
 pub mod SlotLines
 pub mod SlotLogs

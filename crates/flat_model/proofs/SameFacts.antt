@@ -1,13 +1,14 @@
 -- When facts are the same, and what is kept of them.
-use Rattle.std.proofs.Common.{◌≡◌, ℕ, Bool, List, []}
+use Rattle.std.proofs.Common.{◌≡◌, ℕ, Bool, List, [], ap}
 use Rattle.core_views.specs.declared.sizes.Sizes.{Sizes}
 use Rattle.core_views.specs.Flat.{Facts, first_facts}
 use Rattle.core_views.specs.declared.migration.Migration.TheVariants.{Unstarted}
 use Rattle.core_views.specs.Host.{HostMap}
 use Rattle.core_views.specs.Memory.{Memory}
 use Rattle.core_views.specs.Past.{FrameSet}
+use Rattle.core_views.specs.Refusals.{is_logged}
 use Rattle.core_views.specs.SlotSets.{MemorySlots}
-use Rattle.flat_model.specs.HostPages.{Changed}
+use Rattle.flat_model.specs.HostPages.{Changed, host_of}
 use Rattle.flat_model.specs.Dirty.{is_dirty}
 use Rattle.flat_model.specs.Kept.{ContentWords, CopiesKept, Kept, facts_of, memory_of}
 
@@ -39,6 +40,14 @@ same_facts slots slots' host host' memory memory' armed armed' pending pending' 
       image = memory_of (c i).image;
       to_copy = is_dirty (c i).to_copy;
     }
+
+-- A line that changes host pages alone leaves all else as it was.
+pub with_host : (before after : Kept) (host : HostMap) → ((other : ℕ) → host_of after.changed other ≡ host other) → after.slots ≡ before.slots
+    → after.words ≡ before.words → after.dirty ≡ before.dirty → after.copies ≡ before.copies
+    → facts_of after ≡ (let facts : Facts = record (facts_of before) { host = host } in facts)
+with_host before after host maps slots words dirty copies =
+    same_facts _ _ _ _ _ _ _ _ _ _ _ _ slots maps (λ p w. ap (λ (ws : ContentWords). memory_of ws p w) words) (λ id. ap (is_logged id) slots)
+    (λ gfn. ap (λ (frames : List ℕ). is_dirty frames gfn) dirty) copies
 
 pub same_kept : (sizes : Sizes) (slots : MemorySlots) (changed : Changed) (words words' : ContentWords) (dirty dirty' : List ℕ) (copies : CopiesKept)
     → words ≡ words' → dirty ≡ dirty'

@@ -4,7 +4,7 @@ use Rattle.std.specs.Map.{lookup}
 use Rattle.core_views.specs.declared.answer.Answer.{Answer}
 use Rattle.core_views.specs.declared.migration.Migration.{Migration}
 use Rattle.core_views.specs.declared.trace.Command.{Command}
-use Rattle.core_views.specs.declared.trace.Command.TheVariants.{ChangeRun, SetSlot}
+use Rattle.core_views.specs.declared.trace.Command.TheVariants.{SetSlot}
 use Rattle.core_views.specs.declared.trace.Line.{Line}
 use Rattle.core_views.specs.Traces.{IsSlotInRange}
 use Rattle.core_views.specs.declared.sizes.Sizes.{Sizes}
@@ -61,7 +61,6 @@ facts_of kept = record {
 -- The command's numbers are in the ranges of a line of a trace, as far as it matters here.
 abbrev pub IsInRange : Command → Type 0
 IsInRange (SetSlot id slot) = IsSlotInRange slot
-IsInRange (ChangeRun page change) = ⊥
 IsInRange _ = Unit {0}
 
 -- The line, alone on a machine of these sizes, leads from these facts to those, and is answered so.

@@ -11,6 +11,7 @@ use Rattle.core_views.specs.declared.trace.Command.{Command}
 use Rattle.core_views.specs.declared.trace.Command.TheVariants.{DeleteSlot, SetLog, SetSlot}
 use Rattle.core_views.specs.declared.trace.HostChange.{HostChange}
 use Rattle.core_views.specs.declared.trace.Op.{Op}
+use Rattle.core_views.specs.declared.trace.RunChange.{RunChange}
 use Rattle.core_views.specs.declared.trace.Slot.{Slot}
 use Rattle.core_views.specs.Host.{brought_in, is_denied, is_huge}
 use Rattle.core_views.specs.Memory.{word_after_op, with_word}
@@ -21,7 +22,7 @@ use Rattle.core_views.specs.SlotSets.{flat_slots, slot_of_id}
 use Rattle.core_views.specs.SlotCommands.{refused_or_done, slot_change, slots_after}
 use Rattle.flat_model.specs.Dirty.{dirty_after, is_dirty, is_frame_logged}
 use Rattle.flat_model.specs.Kept.{Kept, memory_of}
-use Rattle.flat_model.specs.HostPages.{ChangesUnlessHuge, Maps, host_of}
+use Rattle.flat_model.specs.HostPages.{ChangesUnlessHuge, Maps, SetsRun, host_of}
 
 -- The slot's host pages are among so many.
 pub record IsSlotOf (pages : ℕ) (slot : Slot) : Type 0 where
@@ -89,3 +90,10 @@ ChangesHost page change before after answer false = (answer ≡ Refused OutOfRan
 ChangesHost page change before after answer true =
     ChangesUnlessHuge before.sizes page change before.changed after.changed answer (is_huge (host_of before.changed page)) × (after.slots ≡ before.slots)
     × (after.words ≡ before.words) × (after.dirty ≡ before.dirty) × (after.copies ≡ before.copies)
+
+-- A line that sets a run is refused, and changes nothing, where the pages that it names aren't the actor's own; any other sets that run alone, if it may.
+abbrev pub ChangesRun : ℕ → RunChange → Kept → Kept → Answer → Bool → Type 0
+ChangesRun page change before after answer false = (answer ≡ Refused OutOfRange) × (after ≡ before)
+ChangesRun page change before after answer true =
+    SetsRun page change before.changed after.changed answer × (after.slots ≡ before.slots) × (after.words ≡ before.words) × (after.dirty ≡ before.dirty)
+    × (after.copies ≡ before.copies)

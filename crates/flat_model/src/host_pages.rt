@@ -1,10 +1,12 @@
-ghost use Rattle.std.specs.Prelude.{◌≡◌, [], IfOk, OnErr};
+ghost use Rattle.std.specs.Prelude.{◌≡◌, ◌+◌, ◌^◌, ◌≤◌, [], IfOk, OnErr, OnOk, true};
 ghost use Rattle.core_views.specs.Host.{brought_in, is_huge};
+ghost use Rattle.core_views.specs.HostRuns.{are_in_a_row, continues, is_aligned, is_any_huge, owns_run, run_pages};
 ghost use Rattle.core_views.specs.declared.trace.HostChange.TheVariants.{Move};
-ghost use Rattle.flat_model.specs.HostPages.{ChangesEntries, ChangesUnlessHuge, Maps, host_of};
+ghost use Rattle.core_views.specs.declared.trace.RunChange.TheVariants.{Huge, Small};
+ghost use Rattle.flat_model.specs.HostPages.{ChangesEntries, ChangesUnlessHuge, IsInReach, Maps, SetsRun, host_of, with_levels};
 
 use crate::free_frames::FreeFrames;
-use core_views::{Answer, HostChange, HostEntry, NoMemory, Refusal, Sizes};
+use core_views::{Actor, Answer, HostChange, HostEntry, NoMemory, Refusal, RunChange, Sizes};
 use std::alloc::Global;
 use std::collections::HashMap;
 use std::marker::Model;
@@ -26,6 +28,82 @@ impl Model for HostPages {
     ghost view = { λ h. record { sizes = h.sizes; changed = h.changed.entries } };
 
     ghost invariant = { λ h. AreFree h.sizes.pages (host_of h.changed.entries) h.free };
+}
+
+// How many pages the run of this level has.
+fn run_pages(level: u8) -> u64
+    ensures pages { result ≡ run_pages level }
+    ensures some { 1 ≤ result }
+{
+    match level {
+        3 => 262144,
+        2 => 512,
+        _ => 1,
+    }
+}
+
+/// Whether the pages that the line names are the actor's own: those of the run that is to be
+/// large, or the one page.
+pub fn owns_run(sizes: &Sizes, actor: Actor, page: u64, change: RunChange) -> bool
+    ensures owns { result ≡ owns_run sizes.now actor page change }
+    ensures reach { result ≡ true → IsInReach page change }
+{
+    let Actor::Host(host) = actor else {
+        return false;
+    };
+    match change {
+        RunChange::Huge(level) => {
+            let next = host as usize + 1;
+            let end = sizes.first_pages.get(next).copied().unwrap_or(sizes.pages);
+            sizes.owns(host, page) && run_pages(level) <= end - page
+        }
+        RunChange::Small => sizes.owns(host, page),
+    }
+}
+
+// What the host maps the page to, where lines have changed these.
+fn entry_in(changed: &HashMap<u64, HostEntry>, page: u64) -> HostEntry
+    ensures { result ≡ host_of changed.now.entries page }
+{
+    let own = HostEntry {
+        frame: page,
+        present: true,
+        writable: true,
+        level: 1,
+    };
+    changed.get(&page).copied().unwrap_or(own)
+}
+
+// Whether the page with this entry, so many pages after the first of a run, goes on with the
+// run: it is present, at the frame so many after the first one's, and allows what that one does.
+fn continues(first: HostEntry, after: u64, entry: HostEntry) -> bool
+    ensures { result ≡ continues (first.frame + after) first.writable entry }
+{
+    entry.present
+        && first.frame <= entry.frame
+        && entry.frame - first.frame == after
+        && entry.writable == first.writable
+}
+
+// Sets so many pages, from this one on, to this level. Where memory is refused, nothing has
+// changed: room for all of them is taken first.
+fn set_levels(
+    changed: &mut HashMap<u64, HostEntry>,
+    first: u64,
+    count: u64,
+    level: u8,
+) -> Result<(), NoMemory>
+    requires { first + count ≤ 2 ^ 64 }
+    ensures set { OnOk result (host_of changed.new.entries ≡ with_levels first count level (host_of changed.old.entries)) }
+    ensures kept { OnErr result (changed.new.entries ≡ changed.old.entries) }
+{
+    changed.reserve(count as usize)?;
+    for done in 0..count {
+        let page = first + done;
+        let was = entry_in(changed, page);
+        changed.insert(page, HostEntry { level, ..was })?;
+    }
+    Ok(())
 }
 
 impl HostPages {
@@ -51,13 +129,7 @@ impl HostPages {
     pub fn entry_of(&self, page: u64) -> HostEntry
         ensures { result ≡ host_of self.now.changed page }
     {
-        let own = HostEntry {
-            frame: page,
-            present: true,
-            writable: true,
-            level: 1,
-        };
-        self.changed.get(&page).copied().unwrap_or(own)
+        entry_in(&self.changed, page)
     }
 
     /// Changes the entry of the page, unless it is part of a large one, and gives the answer
@@ -128,6 +200,90 @@ impl HostPages {
                 Err(refused.into())
             }
         }
+    }
+
+    /// Sets the run of pages, unless it may not be, and gives the answer of the line that asked
+    /// for it. Where memory is refused, nothing has changed.
+    pub fn set_run(&mut self, page: u64, change: RunChange) -> Result<Answer, NoMemory>
+        requires { IsInReach page change }
+        ensures sets { IfOk result (SetsRun page change self.old.changed self.new.changed) }
+        ensures kept { OnErr result (self.new ≡ self.old) }
+        ensures sizes { self.new.sizes ≡ self.old.sizes }
+    {
+        match change {
+            RunChange::Huge(level) => self.make_huge(page, level),
+            RunChange::Small => self.make_small(page),
+        }
+    }
+
+    // Makes the run of this level that begins at the page one large page, if it can be.
+    fn make_huge(&mut self, page: u64, level: u8) -> Result<Answer, NoMemory>
+        requires { page + run_pages level ≤ 2 ^ 64 }
+        ensures sets { IfOk result (SetsRun page (Huge level) self.old.changed self.new.changed) }
+        ensures kept { OnErr result (self.new ≡ self.old) }
+        ensures sizes { self.new.sizes ≡ self.old.sizes }
+    {
+        let count = run_pages(level);
+        if self.is_any_huge(page, count) {
+            return Ok(Answer::Refused(Refusal::IsHuge));
+        }
+        if !self.is_aligned(page, level) {
+            return Ok(Answer::Refused(Refusal::NotAligned));
+        }
+        set_levels(&mut self.changed, page, count, level)?;
+        Ok(Answer::Done)
+    }
+
+    // Makes each page small of the large page that has this one.
+    fn make_small(&mut self, page: u64) -> Result<Answer, NoMemory>
+        ensures sets { IfOk result (SetsRun page Small self.old.changed self.new.changed) }
+        ensures kept { OnErr result (self.new ≡ self.old) }
+        ensures sizes { self.new.sizes ≡ self.old.sizes }
+    {
+        let entry = self.entry_of(page);
+        let count = run_pages(entry.level);
+        let first = page / count * count;
+        set_levels(&mut self.changed, first, count, 1)?;
+        Ok(Answer::Done)
+    }
+
+    // Whether one of so many pages, from this one on, is part of a large one.
+    fn is_any_huge(&self, first: u64, count: u64) -> bool
+        requires { first + count ≤ 2 ^ 64 }
+        ensures { result ≡ is_any_huge (host_of self.now.changed) first count }
+    {
+        for done in 0..count {
+            if self.entry_of(first + done).is_huge() {
+                return true;
+            }
+        }
+        false
+    }
+
+    // Whether the page and its frame are the first of a run of this level each, and the pages
+    // of the run can be mapped as one.
+    fn is_aligned(&self, page: u64, level: u8) -> bool
+        requires { page + run_pages level ≤ 2 ^ 64 }
+        ensures { result ≡ is_aligned (host_of self.now.changed) page level }
+    {
+        let count = run_pages(level);
+        let first = self.entry_of(page);
+        page % count == 0 && first.frame % count == 0 && self.are_in_a_row(page, first, count)
+    }
+
+    // Whether so many pages, from this one on, are present, at frames from that of this entry
+    // on, and allow what it does.
+    fn are_in_a_row(&self, page: u64, first: HostEntry, count: u64) -> bool
+        requires { page + count ≤ 2 ^ 64 }
+        ensures { result ≡ are_in_a_row (host_of self.now.changed) first.frame first.writable page count }
+    {
+        for done in 0..count {
+            let entry = self.entry_of(page + done);
+            if !continues(first, done, entry) {
+                return false;
+            }
+        }
+        true
     }
 
     /// Makes the page present: an access brings it in.

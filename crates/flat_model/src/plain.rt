@@ -2,6 +2,7 @@ ghost use Rattle.std.specs.Prelude.{◌≡◌, ◌==◌, ◌&&◌, ◌||◌, ℕ
 ghost use Rattle.core_views.specs.Sizes.{sizes_of};
 ghost use Rattle.core_views.specs.Flat.{first_facts};
 ghost use Rattle.core_views.specs.HostChanges.{is_own};
+ghost use Rattle.core_views.specs.HostRuns.{owns_run};
 ghost use Rattle.core_views.specs.SlotCommands.{change_at_once};
 ghost use Rattle.core_views.specs.Slots.{page_behind};
 ghost use Rattle.core_views.specs.SlotSets.{flat_slots};
@@ -13,15 +14,15 @@ ghost use Rattle.flat_model.specs.Copying.{CopiesPages, IsBelow, IsCopied, Migra
 ghost use Rattle.flat_model.specs.Dirty.{is_dirty, is_frame_logged, sets_all};
 ghost use Rattle.flat_model.specs.Kept.{GivesLine, IsInRange, facts_of, memory_of};
 ghost use Rattle.flat_model.specs.LogSteps.{ReadsLog};
-ghost use Rattle.flat_model.specs.Steps.{Accesses, ChangesHost, ChangesSlots, HasStored, IsChangeOf};
+ghost use Rattle.flat_model.specs.Steps.{Accesses, ChangesHost, ChangesRun, ChangesSlots, HasStored, IsChangeOf};
 
 use crate::copies::Copies;
 use crate::dirty_frames::DirtyFrames;
-use crate::host_pages::HostPages;
+use crate::host_pages::{HostPages, owns_run};
 use crate::images::{frames_to_copy, image_words, slots_by_id};
 use core_views::{
     Actor, Answer, Command, HostChange, Line, LogMode, MemorySlot, Migration, MigrationCall,
-    NoMemory, Op, Refusal, Sizes, Trace,
+    NoMemory, Op, Refusal, RunChange, Sizes, Trace,
 };
 use hands::SlotSet;
 use std::alloc::Global;
@@ -103,11 +104,11 @@ impl Plain {
             Command::SetSlot { id, .. } | Command::DeleteSlot { id } => self.change_slots(line, id),
             Command::SetLog { id, .. } => self.change_slots(line, id),
             Command::ChangeHost { page, change } => self.change_host(line.actor, page, change),
+            Command::ChangeRun { page, change } => self.change_run(line.actor, page, change),
             Command::GetLog { id } | Command::ClearLog { id, .. } => {
                 self.read_log(alloc, &line.command, id)
             }
             Command::Migrate { call } => self.migrate(alloc, call),
-            Command::ChangeRun { .. } => unreachable!(),
         }
     }
 
@@ -352,6 +353,18 @@ impl Plain {
             }
             _ => Ok(Answer::Refused(Refusal::OutOfRange)),
         }
+    }
+
+    // Sets the run of host pages, if the pages that the line names are the actor's own.
+    fn change_run(&mut self, actor: Actor, page: u64, change: RunChange) -> Result<Answer, NoMemory>
+        ensures sets { IfOk result (λ answer. ChangesRun page change self.old self.new answer (owns_run self.old.sizes actor page change)) }
+        ensures kept { OnErr result (self.new ≡ self.old) }
+        ensures sizes { self.new.sizes ≡ self.old.sizes }
+    {
+        if !owns_run(self.host.sizes(), actor, page, change) {
+            return Ok(Answer::Refused(Refusal::OutOfRange));
+        }
+        self.host.set_run(page, change)
     }
 
     // The host page that the slots give the guest frame for this operation.

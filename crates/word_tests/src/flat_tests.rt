@@ -1,6 +1,6 @@
-//! Lines that `Plain` answers, worked out by hand. A table begins with a line that says how many frames
-//! there are, in which mode dirty logs are taken, by its number, and from which pages on those of each host
-//! thread are, as the header of a trace does. Its rows are
+//! Lines that `Plain` answers, worked out by hand. A table begins with a line that says how many pages and
+//! frames there are, in which mode dirty logs are taken, by its number, and from which pages on those of each
+//! host thread are, as the header of a trace does. Its rows are
 //!
 //! - `slot ID BASE PAGES HOST`, with `ro` if it is read only, and `delete ID`, of the manager;
 //! - `log ID on` and `log ID off`, which give a slot a dirty log and take it away, `get ID`, which reads
@@ -8,26 +8,34 @@
 //!   are set in two words;
 //! - `read GFN WORD`, `write GFN WORD VALUE` and `add GFN WORD VALUE`, of a virtual processor;
 //! - `start`, `round`, `finish` and `resume`, of the guest's migration;
-//! - `allow PAGE`, `protect PAGE`, `evict PAGE` and `move PAGE`, with `by` and the number of the host thread.
+//! - `allow PAGE`, `protect PAGE`, `evict PAGE`, `move PAGE`, `huge PAGE LEVEL` and `small PAGE`, with `by` and
+//!   the number of the host thread.
 ghost use Rattle.flat_model.specs.Kept.{IsInRange};
 
 use crate::expected::expect_rows;
 use crate::rows::{numbers, verb};
 use core_views::{
-    Actor, Answer, Command, Header, HostChange, Line, Lines, MigrationCall, Op, Slot, Trace, Words,
+    Actor, Answer, Command, Header, HostChange, Line, Lines, MigrationCall, Op, RunChange, Slot,
+    Trace, Words,
 };
 use flat_model::Plain;
 use std::alloc::Global;
 use std::test::Fail;
 
-// Guest memory of 1024 pages of two words and so many frames, with the host threads' first pages, whose
+// Guest memory of so many pages of two words and so many frames, with the host threads' first pages, whose
 // dirty logs are taken in the mode with this number.
-fn memory(alloc: Global, frames: u64, manual: u8, hosts: &[u64]) -> Result<Plain, Fail> {
+fn memory(
+    alloc: Global,
+    pages: u64,
+    frames: u64,
+    manual: u8,
+    hosts: &[u64],
+) -> Result<Plain, Fail> {
     let header = Header {
         version: 1,
         vcpus: 1,
         workers: 0,
-        pages: 1024,
+        pages,
         frames,
         words: 2,
         pool: 64,
@@ -43,7 +51,9 @@ fn memory(alloc: Global, frames: u64, manual: u8, hosts: &[u64]) -> Result<Plain
 fn begun(alloc: Global, head: &str) -> Result<Plain, Fail> {
     let numbers = numbers(alloc, head)?;
     match numbers.as_slice() {
-        [frames, manual, hosts @ ..] => memory(alloc, *frames, small(*manual), hosts),
+        [pages, frames, manual, hosts @ ..] => {
+            memory(alloc, *pages, *frames, small(*manual), hosts)
+        }
         _ => Err(Fail::new("the table has no head")),
     }
 }
@@ -134,6 +144,21 @@ fn changed_page(
     }
 }
 
+fn changed_run(
+    alloc: Global,
+    plain: &mut Plain,
+    row: &str,
+    numbers: &[u64],
+) -> Result<Answer, Fail> {
+    let (page, change, host) = match (verb(row), numbers) {
+        ("huge", [page, level, host]) => (*page, RunChange::Huge(small(*level)), *host),
+        ("small", [page, host]) => (*page, RunChange::Small, *host),
+        _ => return Err(Fail::new("a run's row has other numbers")),
+    };
+    let command = Command::ChangeRun { page, change };
+    run(alloc, plain, Actor::Host(small(host)), command)
+}
+
 fn cleared(alloc: Global, plain: &mut Plain, numbers: &[u64]) -> Result<Answer, Fail> {
     match numbers {
         [id, first, count, words @ ..] => {
@@ -185,6 +210,7 @@ fn answer_to(alloc: Global, plain: &mut Plain, row: &str, numbers: &[u64]) -> Re
         "protect" => changed_page(alloc, plain, HostChange::Protect, numbers),
         "evict" => changed_page(alloc, plain, HostChange::Evict, numbers),
         "move" => changed_page(alloc, plain, HostChange::Move, numbers),
+        "huge" | "small" => changed_run(alloc, plain, row, numbers),
         _ => accessed(alloc, plain, row, numbers),
     }
 }
@@ -233,7 +259,7 @@ fn first_other(alloc: Global, table: &str) -> Result<(usize, String), Fail> {
 // and its host pages, with their content, are another slot's.
 const SLOTS: &str = "\
 --
-frames 1040 manual 0 hosts 0
+pages 1024 frames 1040 manual 0 hosts 0
 slot 32 0 16 0: refused bad-id
 slot 0 68719476721 16 0: refused too-large
 slot 0 0 16 1024: refused too-large
@@ -253,7 +279,7 @@ read 16 0: mmio
 write 33 0 1: mmio
 read 33 0: frame 65 value 0
 --
-frames 1040 manual 0 hosts 0
+pages 1024 frames 1040 manual 0 hosts 0
 delete 0: refused missing
 delete 32: refused bad-id
 slot 0 0 16 0: done
@@ -293,7 +319,7 @@ fn answers_slot_lines_and_accesses(rt: HostRuntime) -> Result<(), Fail> {
 // pages 512 to 1023.
 const PAGES: &str = "\
 --
-frames 1040 manual 0 hosts 0
+pages 1024 frames 1040 manual 0 hosts 0
 slot 0 0 16 0: done
 write 2 0 7: frame 2 value 0
 move 2 by 0: frame 1024
@@ -305,7 +331,7 @@ move 2 by 0: frame 1023
 add 2 0 1: frame 1023 value 7
 read 2 0: frame 1023 value 8
 --
-frames 1040 manual 0 hosts 0
+pages 1024 frames 1040 manual 0 hosts 0
 slot 0 0 16 0: done
 write 5 0 3: frame 5 value 0
 evict 5 by 0: done
@@ -317,7 +343,7 @@ move 4 by 0: frame 1024
 move 3 by 0: frame 4
 read 3 0: frame 4 value 0
 --
-frames 1040 manual 0 hosts 0
+pages 1024 frames 1040 manual 0 hosts 0
 slot 0 0 16 0: done
 protect 4 by 0: done
 write 4 0 1: hostfault
@@ -331,14 +357,14 @@ read 6 0: frame 1024 value 0
 add 6 0 1: hostfault
 write 16 0 1: mmio
 --
-frames 1024 manual 0 hosts 0
+pages 1024 frames 1024 manual 0 hosts 0
 slot 0 0 16 0: done
 move 0 by 0: refused no-frame
 evict 0 by 0: done
 move 0 by 0: refused no-frame
 read 0 0: frame 0 value 0
 --
-frames 1025 manual 0 hosts 0
+pages 1024 frames 1025 manual 0 hosts 0
 slot 0 0 16 0: done
 move 7 by 0: frame 1024
 move 8 by 0: frame 7
@@ -346,7 +372,7 @@ move 7 by 0: frame 8
 move 9 by 0: frame 1024
 move 9 by 0: frame 9
 --
-frames 1040 manual 0 hosts 0 512
+pages 1024 frames 1040 manual 0 hosts 0 512
 slot 0 0 16 0: done
 move 512 by 0: refused out-of-range
 evict 511 by 1: refused out-of-range
@@ -360,6 +386,75 @@ move 512 by 1: frame 511
 #[test]
 fn changes_host_pages(rt: HostRuntime) -> Result<(), Fail> {
     expect_rows(&rt, first_other(rt.alloc(), PAGES), 51)
+}
+
+// Frames 2048 to 2559 are free at first. A run has 512 pages at level 2, so the last one begins at page 1536.
+//
+// A page that was moved, or isn't present, or allows less than the others, is in no large one. A large page
+// can be read and written as a small one.
+//
+// The run at page 256 of h0 has pages of h1, and page 255 is none of h1's.
+const RUNS: &str = "\
+--
+pages 2048 frames 2560 manual 0 hosts 0
+slot 0 0 16 0: done
+huge 1 2 by 0: refused not-aligned
+huge 2048 2 by 0: refused out-of-range
+huge 1537 2 by 0: refused out-of-range
+huge 0 3 by 0: refused out-of-range
+huge 0xffffffffffffffff 2 by 0: refused out-of-range
+huge 0 2 by 0: done
+move 3 by 0: refused is-huge
+huge 0 2 by 0: refused is-huge
+small 3 by 0: done
+move 3 by 0: frame 2048
+huge 0 2 by 0: refused not-aligned
+--
+pages 2048 frames 2560 manual 0 hosts 0
+slot 0 0 16 512: done
+write 9 0 7: frame 521 value 0
+huge 512 2 by 0: done
+huge 1023 2 by 0: refused is-huge
+huge 768 2 by 0: refused is-huge
+read 9 0: frame 521 value 7
+write 9 0 8: frame 521 value 7
+evict 1023 by 0: refused is-huge
+protect 521 by 0: refused is-huge
+allow 512 by 0: refused is-huge
+move 1024 by 0: frame 2048
+small 1023 by 0: done
+small 1023 by 0: done
+protect 521 by 0: done
+huge 512 2 by 0: refused not-aligned
+write 9 0 9: hostfault
+allow 521 by 0: done
+huge 512 2 by 0: done
+small 512 by 0: done
+evict 520 by 0: done
+huge 512 2 by 0: refused not-aligned
+read 8 0: frame 520 value 0
+huge 512 2 by 0: done
+huge 1536 2 by 0: done
+huge 1025 1 by 0: done
+move 1025 by 0: frame 1024
+--
+pages 2048 frames 2560 manual 0 hosts 0 512
+slot 0 0 16 0: done
+huge 256 2 by 0: refused out-of-range
+huge 255 1 by 1: refused out-of-range
+huge 0 2 by 1: refused out-of-range
+huge 512 2 by 1: done
+small 512 by 0: refused out-of-range
+huge 0 2 by 0: done
+small 511 by 0: done
+move 511 by 0: frame 2048
+move 512 by 1: refused is-huge
+huge 0 2 by 2: refused out-of-range
+";
+
+#[test]
+fn sets_runs_of_host_pages(rt: HostRuntime) -> Result<(), Fail> {
+    expect_rows(&rt, first_other(rt.alloc(), RUNS), 49)
 }
 
 // A write or an add makes its page dirty, if its slot has a log, and a get takes out what it
@@ -379,7 +474,7 @@ fn changes_host_pages(rt: HostRuntime) -> Result<(), Fail> {
 // The same where each page of a new log is dirty.
 const LOGS: &str = "\
 --
-frames 1040 manual 0 hosts 0
+pages 1024 frames 1040 manual 0 hosts 0
 slot 0 0 16 0: done
 slot 1 32 16 64 ro: done
 write 3 0 1: frame 3 value 0
@@ -404,7 +499,7 @@ log 0 off: done
 log 0 on: done
 get 0: bits 0x0
 --
-frames 1040 manual 0 hosts 0
+pages 1024 frames 1040 manual 0 hosts 0
 log 0 on: refused missing
 log 32 off: refused missing
 get 0: refused missing
@@ -434,7 +529,7 @@ get 0: bits 0x0
 log 0 off: done
 delete 0: done
 --
-frames 1040 manual 1 hosts 0
+pages 1024 frames 1040 manual 1 hosts 0
 slot 0 0 16 0: done
 log 0 on: done
 get 0: bits 0x0
@@ -449,7 +544,7 @@ get 0: bits 0x202
 clear 0 0 16 0xffff 0: bits 0x202
 get 0: bits 0x0
 --
-frames 1040 manual 2 hosts 0
+pages 1024 frames 1040 manual 2 hosts 0
 slot 0 0 16 0: done
 slot 1 16 16 64: done
 log 0 on: done
@@ -467,7 +562,7 @@ get 1: bits 0xfffe
 log 0 on: done
 get 0: bits 0xffff
 --
-frames 1040 manual 0 hosts 0
+pages 1024 frames 1040 manual 0 hosts 0
 slot 3 1000 100 0: done
 log 3 on: done
 write 1063 0 1: frame 63 value 0
@@ -475,7 +570,7 @@ write 1064 0 1: frame 64 value 0
 get 3: bits 0x8000000000000000 0x1
 get 3: bits 0x0 0x0
 --
-frames 1040 manual 2 hosts 0
+pages 1024 frames 1040 manual 2 hosts 0
 slot 3 1000 100 0: done
 log 3 on: done
 get 3: bits 0xffffffffffffffff 0xfffffffff
@@ -500,7 +595,7 @@ fn reads_and_clears_logs(rt: HostRuntime) -> Result<(), Fail> {
 // A page that moves, or is evicted, isn't copied again: its content stays. In the pause host threads go on.
 const MIGRATIONS: &str = "\
 --
-frames 1040 manual 0 hosts 0
+pages 1024 frames 1040 manual 0 hosts 0
 slot 0 0 16 0: done
 log 0 on: done
 write 2 0 7: frame 2 value 0
@@ -513,7 +608,7 @@ read 2 0: paused
 resume: done
 read 2 0: frame 2 value 12
 --
-frames 1040 manual 0 hosts 0
+pages 1024 frames 1040 manual 0 hosts 0
 slot 0 0 16 0: done
 get 0: refused no-log
 round: refused not-started
@@ -529,7 +624,7 @@ resume: done
 log 0 off: done
 clear 0 0 16 0x1: refused no-log
 --
-frames 1040 manual 0 hosts 0
+pages 1024 frames 1040 manual 0 hosts 0
 slot 0 0 16 0: done
 log 0 on: done
 start: done

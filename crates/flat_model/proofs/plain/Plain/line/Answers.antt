@@ -2,12 +2,14 @@ use Rattle.std.proofs.Common.{◌≡◌, true, refl, rules}
 use Rattle.std.proofs.lemmas.Result.{IfOk-weaker}
 use Rattle.std.specs.Prelude.{is_some}
 use Rattle.core_views.specs.HostChanges.{is_own}
+use Rattle.core_views.specs.HostRuns.{owns_run}
 use Rattle.core_views.specs.LogCommands.{log_read, read_refusal}
 use Rattle.core_views.specs.SlotCommands.{change_at_once, changes_slot}
 use Rattle.flat_model.specs.Kept.{GivesLine, facts_of}
 use Rattle.flat_model.specs.LogSteps.{ReadsLog}
-use Rattle.flat_model.specs.Steps.{Accesses, ChangesHost, ChangesSlots}
+use Rattle.flat_model.specs.Steps.{Accesses, ChangesHost, ChangesRun, ChangesSlots}
 use Rattle.flat_model.proofs.HostChangeLines.{host_line}
+use Rattle.flat_model.proofs.HostRunLines.{host_run_line}
 use Rattle.flat_model.proofs.FreeLines.{IsFree}
 use Rattle.flat_model.proofs.LogLines.{some_log_line}
 use Rattle.core_views.specs.Migrations.{call_answer}
@@ -27,6 +29,17 @@ returns-in-ChangeHost-clause-gives c =
     IfOk-weaker c.change_host.result (λ answer. ChangesHost page change before after answer (is_own before.sizes line.actor page))
     (GivesLine before.sizes line (facts_of before) (facts_of after))
     (λ answer changes. host_line line page change before after answer c.in-ChangeHost.is changes) c.change_host.ensures.changes
+
+pub returns-in-ChangeRun-clause-gives : goal.returns-in-ChangeRun-clause-gives
+returns-in-ChangeRun-clause-gives c =
+    let line = c.args.line.now in
+    let page = c.in-ChangeRun.page in
+    let change = c.in-ChangeRun.change in
+    let before = c.args.self.now in
+    let after = c.change_run.new.self in
+    IfOk-weaker c.change_run.result (λ answer. ChangesRun page change before after answer (owns_run before.sizes line.actor page change))
+    (GivesLine before.sizes line (facts_of before) (facts_of after))
+    (λ answer sets. host_run_line line page change before after answer c.in-ChangeRun.is sets) c.change_run.ensures.sets
 
 pub returns-in-SetSlot-clause-gives : goal.returns-in-SetSlot-clause-gives
 returns-in-SetSlot-clause-gives c =
