@@ -54,7 +54,7 @@ fn first_usable(gfn: u64, write: bool, translations: &[Translation]) -> Option<T
 
 /// The newest translation that covers the guest frame and allows the access;
 /// `None` where there is none.
-pub(crate) fn lookup(cache: &Cache, gfn: u64, write: bool) -> Option<Translation>
+pub fn lookup(cache: &Cache, gfn: u64, write: bool) -> Option<Translation>
     requires { All IsAtLeafLevel cache.now.items }
     ensures { result ≡ first_usable gfn write cache.now.items }
 {

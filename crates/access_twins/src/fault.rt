@@ -2,14 +2,14 @@
 ghost use Rattle.std.specs.Prelude.{◌≡◌, ◌≤◌, ◌<◌, ◌^◌, ◌==◌, ◌&&◌, Bool, true, false, if◌then◌else◌};
 ghost use Rattle.core_views.specs.declared.place.Cause.TheVariants.{Entry};
 ghost use Rattle.core_views.specs.declared.place.FaultEnd.TheVariants.{Retry};
-ghost use Rattle.core_views.specs.declared.place.FaultPlace.TheVariants.{End, FastFind, Find, Fix, Give, Host, Leaf, Link, Share, Unshare, Walk};
+ghost use Rattle.core_views.specs.declared.place.FaultPlace.TheVariants.{End, FastFind, Fill, Find, Fix, Give, Host, Leaf, Link, Share, Unshare, Walk};
 ghost use Rattle.core_views.specs.Sizes.{AreSizes};
-ghost use Rattle.mmu_core.specs.forms.access.FaultSteps.{after_claim, after_share, check_next, check_part, entry_word, exchange_lost};
+ghost use Rattle.mmu_core.specs.forms.access.FaultSteps.{after_claim, after_share, check_next, check_part, end_next, entry_word, exchange_lost};
 ghost use Rattle.mmu_core.specs.forms.access.FaultSteps.{fault_next, fault_part, find_next};
 ghost use Rattle.mmu_core.specs.forms.access.FaultSteps.{fast_find_next, fast_walk_next, host_word_at, over_next, page_next, put_next, share_next, walk_next};
 ghost use Rattle.part_steps.specs.declared.part_step.PartStep.TheVariants as part;
 ghost use Rattle.part_steps.specs.PartBounds.{PartRests};
-ghost use Rattle.part_steps.specs.PartTasks.{table_page, word_looked};
+ghost use Rattle.part_steps.specs.PartTasks.{table_page, word_looked, words_filled};
 ghost use Rattle.part_steps.specs.PartSteps.{PartNeeds};
 ghost use Rattle.part_steps.specs.SlotWords.{page_of};
 ghost use Rattle.part_steps.specs.PageTopics.{searched};
@@ -22,7 +22,9 @@ use core_views::{
 use mmu_core::{ClaimNext, FreeMap, ShareNext};
 use order_twins::{claim_next, claim_part, share_next, share_part};
 use part_steps::{PartStep, map_of};
-use part_twins::{Hand, entry_index, is_fixable, page_of, search, table_page, words_filled};
+use part_twins::{
+    Hand, entry_index, is_fixable, maps_run, page_of, search, table_page, word_below, words_filled,
+};
 use spte_words::{Area, ENTRIES, HostWord, Spte, SpteKind};
 
 fn check_part(stage: CheckStage) -> PartStep
@@ -39,6 +41,7 @@ fn check_part(stage: CheckStage) -> PartStep
 /// The step of this place.
 pub(crate) fn part(place: FaultPlace, gfn: u64, topics: &Topics) -> PartStep
     requires page { place ≡ Host → page_of topics.now.search.slot gfn < 2 ^ 64 }
+    requires filled { place ≡ Fill → words_filled topics.now.owned < 512 }
     ensures { result ≡ fault_part place gfn topics.now }
 {
     match place {
@@ -53,7 +56,7 @@ pub(crate) fn part(place: FaultPlace, gfn: u64, topics: &Topics) -> PartStep
         FaultPlace::Walk { rooted: true } => PartStep::Walk(gfn),
         FaultPlace::Walk { rooted: false } => PartStep::Root,
         FaultPlace::Claim { begun } => claim_part(FreeMap::Pages, begun, &topics.claim),
-        FaultPlace::Fill => PartStep::Fill(0),
+        FaultPlace::Fill => PartStep::Fill(word_below(topics)),
         FaultPlace::Role => PartStep::Role(topics.walk.level.saturating_sub(1) as u64),
         FaultPlace::Link => PartStep::Link(gfn),
         FaultPlace::Give(_) => PartStep::Give,
@@ -197,27 +200,37 @@ fn changed(fast: bool, word: u32, read: u64, seen: u64) -> FaultEnd
     FaultEnd::Retry { fast, cause }
 }
 
-// Behind an entry of the walk's table.
-fn walk_next(sizes: &Sizes, gfn: u64, write: bool, walk: &TableWalk, found: u64) -> FaultPlace
-    requires sizes { AreSizes sizes.now }
-    requires from { 1 ≤ walk.now.level }
-    requires to { walk.now.level ≤ 4 }
-    requires page { table_page walk.now < sizes.now.pool }
-    ensures { result ≡ walk_next (kind_of walk.now.level found) sizes.now gfn write walk.now found }
+// At an entry in which nothing is mapped, or a leaf that forbids the access: a leaf of this level is
+// put, or a table is to be linked.
+fn end_next(gfn: u64, write: bool, topics: &Topics) -> FaultPlace
+    requires small { gfn < 2 ^ 36 }
+    requires from { 1 ≤ topics.now.walk.level }
+    requires to { topics.now.walk.level ≤ 4 }
+    ensures { result ≡ end_next gfn write topics.now }
 {
+    if maps_run(topics.walk.level, gfn, topics) {
+        FaultPlace::Leaf { write }
+    } else {
+        FaultPlace::Claim { begun: false }
+    }
+}
+
+// After an entry of the walk's table.
+fn walk_next(sizes: &Sizes, gfn: u64, write: bool, topics: &Topics, found: u64) -> FaultPlace
+    requires sizes { AreSizes sizes.now }
+    requires small { gfn < 2 ^ 36 }
+    requires from { 1 ≤ topics.now.walk.level }
+    requires to { topics.now.walk.level ≤ 4 }
+    requires page { table_page topics.now.walk < sizes.now.pool }
+    ensures { result ≡ walk_next (kind_of topics.now.walk.level found) sizes.now gfn write topics.now found }
+{
+    let walk = &topics.walk;
     let entry = Spte::from_word(found);
     match entry.kind(walk.level) {
         SpteKind::Table(_) => FaultPlace::Walk { rooted: true },
-        SpteKind::Leaf if walk.level == 1 => {
-            if !write || entry.is_writable() {
-                FaultPlace::Unshare(FaultEnd::Installed)
-            } else {
-                FaultPlace::Leaf { write }
-            }
-        }
-        SpteKind::Absent if walk.level == 1 => FaultPlace::Leaf { write },
-        SpteKind::Absent => FaultPlace::Claim { begun: false },
-        SpteKind::Leaf | SpteKind::Frozen => {
+        SpteKind::Leaf if !write || entry.is_writable() => FaultPlace::Unshare(FaultEnd::Installed),
+        SpteKind::Leaf | SpteKind::Absent => end_next(gfn, write, topics),
+        SpteKind::Frozen => {
             FaultPlace::Unshare(changed(false, entry_word(sizes, gfn, walk), found, found))
         }
     }
@@ -336,7 +349,7 @@ fn looked_next(place: FaultPlace, gfn: u64, write: bool, topics: &Topics, found:
 }
 
 /// Where the fault stands after the step of this place, which answered `found`.
-pub(crate) fn next(place: FaultPlace, hand: &Hand, gfn: u64, write: bool, found: u64) -> FaultNext
+pub fn next(place: FaultPlace, hand: &Hand, gfn: u64, write: bool, found: u64) -> FaultNext
     requires rests { PartRests hand.now.core }
     requires needs { PartNeeds (fault_part place gfn hand.now.core.topics) hand.now.core }
     ensures { result ≡ fault_next place hand.now.core.state.sizes gfn write hand.now.core.topics found }
@@ -352,7 +365,7 @@ pub(crate) fn next(place: FaultPlace, hand: &Hand, gfn: u64, write: bool, found:
         | FaultPlace::Share => { looked_next(place, gfn, write, topics, found) }
         FaultPlace::Bring => brought_next(hand, found),
         FaultPlace::Check(stage) => check_next(stage, gfn, topics, found),
-        FaultPlace::Walk { rooted: true } => walk_next(sizes, gfn, write, &topics.walk, found),
+        FaultPlace::Walk { rooted: true } => walk_next(sizes, gfn, write, topics, found),
         FaultPlace::Walk { rooted: false } => FaultPlace::Walk { rooted: true },
         FaultPlace::Claim { begun } => {
             after_claim(claim_next(FreeMap::Pages, begun, sizes, &topics.claim, found))

@@ -7,6 +7,7 @@ mod cached;
 mod fault;
 
 pub use access::{
-    access_note, fill_cache as access_caches, outcome as access_outcome, part as access_part, touch,
+    access_note, fill_cache as access_caches, frame_used, part as access_part, stay_next, touch,
 };
-pub use cached::{asks_flush, flush};
+pub use cached::{asks_flush, flush, lookup};
+pub use fault::next as fault_next;

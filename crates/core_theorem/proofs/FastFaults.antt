@@ -33,8 +33,8 @@ use Rattle.mmu_core.specs.declared.claim.FreeMap.TheVariants.{Pages}
 use Rattle.mmu_core.specs.invariant.Laws.{IsSound}
 use Rattle.mmu_core.specs.forms.access.FaultKnows.{FaultKnows, SawNotFast, forbids_more}
 use Rattle.mmu_core.specs.forms.access.FaultSteps.{after_claim, after_share, check_next, exchange_lost, fast_walk_next, fault_next, fault_part, put_next}
-use Rattle.mmu_core.specs.forms.access.FaultSteps.{walk_next}
-use Rattle.mmu_core.specs.forms.access.FaultSteps.{allows_access, claim_next, entry_word, found_next, host_word_at, is_fast, is_last_word, page_next}
+use Rattle.mmu_core.specs.forms.access.FaultSteps.{walk_next, end_next}
+use Rattle.mmu_core.specs.forms.access.FaultSteps.{allows_access, claim_next, found_next, host_word_at, is_fast, is_last_word, page_next}
 use Rattle.mmu_core.specs.forms.access.FaultSteps.{search_next}
 use Rattle.mmu_core.specs.forms.access.FaultSteps.{share_next, snapshot_taken}
 use Rattle.mmu_core.specs.machine.Enabled.{mmu}
@@ -47,6 +47,7 @@ use Rattle.mmu_laws.proofs.causes.MadeSteps.{Makes, exchange_finds, stays_in, wo
 use Rattle.core_theorem.specs.FastFaults.{AllowsWrite, FixedFaultsHaveAllowed, IsSearchedInVain, MarksFrame, OtherFastFaultsSawWhy, SawNothingToAllow}
 use Rattle.core_theorem.proofs.LookUps.{knows_fault}
 use Rattle.core_theorem.proofs.Runs.{sound}
+use Rattle.part_steps.specs.RunHoldings.{maps_run}
 
 -- The actor has allowed the write in the section in which the steps end, and has marked the frame's page there.
 abbrev Allowed : Sizes → World Held → ℕ → ℕ → List (Step Kind) → Type 0
@@ -159,18 +160,13 @@ module _ (z : Sizes) (w : World Held) (ss : List (Step Kind)) (s : Step Kind) (G
     claimed claims.Got = tt
     claimed claims.Empty = tt
 
-    walked : (k : SpteKind) (write : Bool) → Now (walk_next k z gfn write t.walk v)
+    ended : (write : Bool) → Now (end_next gfn write t)
+    ended write = chosen Now (maps_run t.walk.level gfn t) (fault.Leaf write) (fault.Claim false) tt tt
+
+    walked : (k : SpteKind) (write : Bool) → Now (walk_next k z gfn write t v)
     walked (entry_kind.Table page) write = tt
-    walked entry_kind.Leaf write = leaf (t.walk.level == 1) (allows_access write v)
-      where
-        leaf : (lowest allowed : Bool) → Now (
-            if lowest then (if allowed then fault.Unshare Installed else fault.Leaf write)
-            else fault.Unshare (Retry false (Entry (entry_word z gfn t.walk) v v))
-            )
-        leaf true true = tt
-        leaf true false = tt
-        leaf false allowed = tt
-    walked entry_kind.Absent write = chosen Now (t.walk.level == 1) (fault.Leaf write) (fault.Claim false) tt tt
+    walked entry_kind.Leaf write = chosen Now (allows_access write v) (fault.Unshare Installed) (end_next gfn write t) tt (ended write)
+    walked entry_kind.Absent write = ended write
     walked entry_kind.Frozen write = tt
 
     fast_walked : (k : SpteKind) → Now (fast_walk_next k t.walk v)

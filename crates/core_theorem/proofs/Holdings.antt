@@ -27,7 +27,7 @@ use Rattle.core_theorem.specs.Walks.{table_at, walk_of}
 use Rattle.mmu_core.specs.invariant.TreePart.{stands}
 use Rattle.mmu_core.specs.invariant.TreePart.Use.{SlotSet}
 use Rattle.part_steps.specs.PartTasks.{own_index}
-use Rattle.part_steps.specs.PartHoldings.{MayGiveOld}
+use Rattle.part_steps.specs.SetHoldings.{MayGiveOld}
 use Rattle.core_views.specs.Kinds.{code_of}
 use Rattle.core_views.specs.declared.kind.StepKind.TheVariants as kind
 

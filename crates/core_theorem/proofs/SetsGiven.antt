@@ -16,7 +16,7 @@ use Rattle.core_views.specs.Held.{Held}
 use Rattle.core_views.specs.Sizes.{actors_of}
 use Rattle.part_steps.specs.declared.task.Task.{Task}
 use Rattle.part_steps.specs.PartTasks.{own_index, part_task}
-use Rattle.part_steps.specs.PartHoldings.{MayGiveOld}
+use Rattle.part_steps.specs.SetHoldings.{MayGiveOld}
 use Rattle.mmu_core.specs.machine.Enabled.{mmu}
 use Rattle.mmu_core.specs.invariant.Invariant.{KnowsPart, UnderWay, RetiresPart}
 use Rattle.mmu_core.specs.invariant.Laws.{IsSound}

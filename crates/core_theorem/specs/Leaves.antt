@@ -39,7 +39,7 @@ HeldLeavesAgree = AfterEveryRun (λ z w.
     → LeadsTo (word_in z w area.Pool) level (table_at level (walk_of w actor)) gfn at entry
     → kind_of at entry ≡ entry_kind.Leaf → Agrees z w at gfn entry)
 
--- Each leaf to which links lead a guest frame from the root is of the lowest level: no step puts a larger one.
+-- Each leaf to which links lead a guest frame from the root is of the lowest level: no line makes a large host page.
 abbrev pub LeavesAreLowest : Type 0
 LeavesAreLowest = AfterEveryRun (λ z w.
     (gfn at entry : ℕ) → gfn < 2 ^ 36

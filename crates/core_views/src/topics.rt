@@ -170,8 +170,13 @@ pub struct OwnedPage {
     pub page: u64,
     /// How many of its words are filled, 512 and then its role: 0 to 513.
     pub filled: u64,
-    /// Whether each of the 512 that is filled holds 0.
-    pub absent: bool,
+    /// The entry that the actor's walk had loaded when the page was claimed, and the level of
+    /// its table.
+    pub entry: u64,
+    pub level: u8,
+    /// Whether each of the 512 that is filled holds what is to stand there in a table that is
+    /// linked in place of this entry: the child of a large leaf, and else 0.
+    pub below: bool,
     /// The role that was stored, once all is filled.
     pub role: u64,
 }

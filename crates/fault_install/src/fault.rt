@@ -19,7 +19,7 @@ use mmu_lock::{try_shared, unlock};
 use part_steps::{PartStep, map_of};
 use spte_words::Area;
 use step_seats::{
-    Stepper, Turn, access_note, fault_place, make_part, page_of, page_owned, part_rests,
+    Stepper, Turn, access_note, fault_place, make_part, page_of, page_owned, part_rests, word_below,
 };
 use table_pool::{Claim, Fill, Give};
 use tdp_walk::Walk;
@@ -103,7 +103,8 @@ impl FaultJob {
                 let _ = Walk { gfn, rooted }.turn(s, note);
             }
             FaultPlace::Fill => {
-                let _ = Fill::new(page).turn(s, 0, note);
+                let word = word_below(topics);
+                let _ = Fill::new(page).turn(s, word, note);
             }
             FaultPlace::Role => {
                 let _ = Fill::new(page).turn(s, below, note);

@@ -68,17 +68,17 @@ module _ (seq count : ℕ) where
       → (h.topics.invalidations.opened ≡ true → 1 ≤ words area.Count 0)
       → (h.topics.invalidations.opened ≡ false → nat_lt h.topics.invalidations.count new_ ≡ false) → At h.topics words
       → Comes seq count (nat_lt h.topics.invalidations.count new_) false (words area.Seq 0) new_
-  lowers h words new_ N C some opens_none (Open_ opened raised same counted) = absurd (let must = N.closes opened in cc (must, raised))
+  lowers h words new_ N C some opens_none (Open_ opened raised same counted) = absurd (let must = N.0.closes opened in cc (must, raised))
   lowers h words new_ N C some opens_none (Raised_ opened raised same counted) =
-      let loaded : h.topics.invalidations.count ≡ words area.Count 0 = C.counted (ap has_lock N.alone) N.knows in
+      let loaded : h.topics.invalidations.count ≡ words area.Count 0 = C.counted (ap has_lock N.0.alone) N.0.knows in
       let less : new_ ≡ h.topics.invalidations.count - 1 =
-      N.is ∙ ap (λ (b : Bool). if b then h.topics.invalidations.count - 1 else h.topics.invalidations.count + 1) opened in
+      N.0.is ∙ ap (λ (b : Bool). if b then h.topics.invalidations.count - 1 else h.topics.invalidations.count + 1) opened in
       let one = some opened in
       Closed_ (let lt : new_ < h.topics.invalidations.count = omega (arith, loaded, less, one) in grind (arith, nat_tests)) same
       (omega (arith, loaded, less, one, counted))
   lowers h words new_ N C some opens_none (Closed_ closed same counted) =
       let more : new_ ≡ h.topics.invalidations.count + 1 =
-      N.is ∙ ap (λ (b : Bool). if b then h.topics.invalidations.count - 1 else h.topics.invalidations.count + 1) closed in
+      N.0.is ∙ ap (λ (b : Bool). if b then h.topics.invalidations.count - 1 else h.topics.invalidations.count + 1) closed in
       absurd (let not_ = opens_none closed in grind (arith, nat_tests))
 
   -- A step of a part that its actor makes brings it on so, if it opens no invalidation.

@@ -35,7 +35,8 @@ use Rattle.mmu_core.specs.declared.share.ShareNext.{ShareNext}
 use Rattle.mmu_core.specs.declared.share.ShareNext.TheVariants as shares
 use Rattle.mmu_core.specs.forms.access.AccessSteps.{access_outcome, behind_fault, pause_next, stay_next}
 use Rattle.mmu_core.specs.forms.access.Cached.{first_usable}
-use Rattle.mmu_core.specs.forms.access.FaultSteps.{after_claim, after_share, allows_access, fault_next, walk_next, found_next}
+use Rattle.part_steps.specs.RunHoldings.{maps_run}
+use Rattle.mmu_core.specs.forms.access.FaultSteps.{after_claim, after_share, allows_access, end_next, fault_next, walk_next, found_next}
 use Rattle.mmu_core.specs.lines.Forms.{first_place, outcome_at}
 use Rattle.mmu_core.proofs.lines.Forms.{outcome_apart}
 use Rattle.mmu_core.specs.machine.Outcomes.{place_after}
@@ -49,7 +50,6 @@ use Rattle.mmu_core.proofs.forms.slot_change.SlotChangePlaces.{slot_change_goes}
 use Rattle.log_invariant.specs.LogInvariant.{FastWritesAt, is_within_fast}
 use Rattle.log_invariant.proofs.StepPlaces.{of_hand}
 use Rattle.core_views.specs.declared.topics.SlotSearch.{SlotSearch}
-use Rattle.core_views.specs.declared.topics.TableWalk.{TableWalk}
 use Rattle.spte_words.specs.HostWords.{host_allows_write, host_present}
 use Rattle.part_steps.specs.PageTopics.{searched}
 use Rattle.part_steps.specs.PartTasks.{word_looked, words_filled}
@@ -100,12 +100,15 @@ slow_claim claims.Goes = refl
 slow_claim claims.Got = refl
 slow_claim claims.Empty = refl
 
-slow_walk : (k : SpteKind) (z : Sizes) (gfn : ℕ) (write : Bool) (walk : TableWalk) (v : ℕ) → IsSlow (walk_next k z gfn write walk v)
-slow_walk (entry_kind.Table page) z gfn write walk v = refl
-slow_walk entry_kind.Leaf z gfn write walk v =
-    slow_one (walk.level == 1) _ _ (slow_one (allows_access write v) (fault.Unshare end_of.Installed) (fault.Leaf write) refl refl) refl
-slow_walk entry_kind.Absent z gfn write walk v = slow_one (walk.level == 1) (fault.Leaf write) (fault.Claim false) refl refl
-slow_walk entry_kind.Frozen z gfn write walk v = refl
+slow_end : (gfn : ℕ) (write : Bool) (t : Topics) → IsSlow (end_next gfn write t)
+slow_end gfn write t = slow_one (maps_run t.walk.level gfn t) (fault.Leaf write) (fault.Claim false) refl refl
+
+slow_walk : (k : SpteKind) (z : Sizes) (gfn : ℕ) (write : Bool) (t : Topics) (v : ℕ) → IsSlow (walk_next k z gfn write t v)
+slow_walk (entry_kind.Table page) z gfn write t v = refl
+slow_walk entry_kind.Leaf z gfn write t v =
+    slow_one (allows_access write v) (fault.Unshare end_of.Installed) (end_next gfn write t) refl (slow_end gfn write t)
+slow_walk entry_kind.Absent z gfn write t v = slow_end gfn write t
+slow_walk entry_kind.Frozen z gfn write t v = refl
 
 -- It goes on to no place of a fast one.
 slow_stays : (p : FaultPlace) (z : Sizes) (gfn : ℕ) (write : Bool) (t : Topics) (v : ℕ) → IsSlow p → is_fast_next (fault_next p z gfn write t v) ≡ false
@@ -125,7 +128,7 @@ slow_stays (fault.Check stage.End) z gfn write t v slow =
 slow_stays (fault.Check stage.Seq) z gfn write t v slow =
     slow_one (v == snapshot_taken t.invalidations.snapshot) (fault.Walk false) _ refl refl
 slow_stays (fault.Walk rooted) z gfn write t v slow =
-    slow_one rooted _ (fault.Walk true) (slow_walk (kind_of t.walk.level v) z gfn write t.walk v) refl
+    slow_one rooted _ (fault.Walk true) (slow_walk (kind_of t.walk.level v) z gfn write t v) refl
 slow_stays (fault.Claim begun) z gfn write t v slow = slow_claim (claim_next Pages begun z t.claim v)
 slow_stays fault.Fill z gfn write t v slow = slow_one (nat_lt (words_filled t.owned + 1) 512) fault.Fill fault.Role refl refl
 slow_stays fault.Link z gfn write t v slow = slow_one (v == t.walk.entry) (fault.Walk true) _ refl refl

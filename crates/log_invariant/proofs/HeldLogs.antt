@@ -19,7 +19,8 @@ use Rattle.core_views.specs.declared.trace.Slot.{Slot as SlotOf}
 use Rattle.core_views.specs.Sizes.{actors_of, index_of}
 use Rattle.core_views.specs.Slots.{contains}
 use Rattle.spte_words.specs.declared.area.Area.TheVariants as area
-use Rattle.part_steps.specs.PartHoldings.{FoundSlot, MayGiveOld}
+use Rattle.part_steps.specs.PartHoldings.{FoundSlot}
+use Rattle.part_steps.specs.SetHoldings.{MayGiveOld}
 use Rattle.mmu_core.specs.invariant.Invariant.{Invariant, KnowsPart, RetiresPart}
 use Rattle.mmu_core.specs.invariant.SlotSetPart.{IsLiveIn}
 use Rattle.mmu_core.specs.invariant.TopicsInvariant.{TopicsInvariant}

@@ -76,7 +76,7 @@ part_leaves z v a step note S P IsSo new_ A up spot T =
     all_accounts (tree_kept z v a step note S P) T (LeafIsGuarded IsSo)
     (subst (λ (r : ℕ → ℕ). AllOver (up_after step a (v.hand a).topics v P.up) (spot_after step (v.hand a).topics v P.spot)
     ((part_stepped a step note v).words area.Pool) (r 0) (LeafIsGuarded IsSo)) (sym (areas_stay v a step note area.Root refl))
-    (over_step z v a step note S P (v.words area.Root 0) (LeafIsGuarded IsSo) (ap is_table P.tree.top) (guarded_light IsSo)
+    (over_step z v a step note S P (v.words area.Root 0) (LeafIsGuarded IsSo) (ap is_table P.tree.top) (guarded_light IsSo) (guarded_inherited IsSo)
     (new_leaf z v a step S IsSo new_) (A P.up P.spot P.tree)))
 
 -- A touch leaves the tables.

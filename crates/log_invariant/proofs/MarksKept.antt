@@ -37,7 +37,7 @@ use Rattle.mmu_core.specs.machine.View.{View, answer_in, part_stepped, stepped}
 use Rattle.mmu_core.proofs.invariant.Kept.{makes_at}
 use Rattle.mmu_core.proofs.forms.access.AccessParts.{AreSmall}
 use Rattle.mmu_core.proofs.lines.KnowsKept.{step_knows}
-use Rattle.mmu_core.proofs.forms.access.LeafKnown.{lowest_frame, upper_owes_none}
+use Rattle.mmu_core.proofs.forms.access.LeafPut.{logged_lowest, lowest_frame, upper_owes_none}
 use Rattle.mmu_core.proofs.machine.Columns.{at_upd}
 use Rattle.mmu_core.proofs.machine.PartStepping.{IsPart, behind_part}
 use Rattle.mmu_core.proofs.machine.Stepping.{IsStep}
@@ -106,7 +106,7 @@ owed_was : (step : PartStep) (h : Held) (x gfn : ℕ) → PartNeeds step h → p
 owed_was (part.Leaf frame write) h x gfn needs other owed = absurd (cc other)
 owed_was (part.Fix frame) h x gfn needs other owed = absurd (cc other)
 owed_was (part.Link frame) h x gfn needs other owed =
-    sym (upper_owes_none (x == h.topics.walk.entry) h.topics (entry_index frame h.topics.walk.level) _ needs.1) ∙ owed
+    sym (upper_owes_none (x == h.topics.walk.entry) h.topics (entry_index frame h.topics.walk.level) _ needs.0.upper) ∙ owed
 owed_was part.Mark h x gfn needs other owed = absurd (cc owed)
 owed_was _ h x gfn needs other owed = owed
 
@@ -146,7 +146,8 @@ marks_after (place.Access (access.Fault (fault.Leaf writes))) (Access at word op
     let W = owes_now (x == t.walk.entry) t.search.logged (leaf_written at writes t) (entry_index at t.walk.level) gfn t N.0.owes_none owed in
     let for_write : writes ≡ true = put_for_write at writes t W.logged_is W.allows in
     marks_next false (x == t.walk.entry) (writes && t.search.logged) (fault.Unshare (exchange_lost false h.state.sizes at t.walk x)) at word op gfn W.wins
-    (ap (λ b. b && t.search.logged) for_write ∙ W.logged_is) (sym (lowest_frame at t.walk N.0.saw.over K.3) ∙ W.frame) (sym K.4 ∙ for_write)
+    (ap (λ b. b && t.search.logged) for_write ∙ W.logged_is)
+    (sym (lowest_frame at t.walk N.0.saw.over (logged_lowest at t K.3 N.0.saw.over.there W.logged_is)) ∙ W.frame) (sym K.4 ∙ for_write)
 marks_after (place.Access (access.Fault fault.Fix)) (Access at word op) h x gfn K F needs was owed =
     let N = needs (part.Fix at) refl in
     let t : Topics = h.topics in

@@ -60,7 +60,7 @@ use Rattle.mmu_core.specs.machine.Outcomes.{place_after}
 use Rattle.mmu_core.specs.machine.Steps.{has_line, idle_after}
 use Rattle.mmu_core.specs.machine.View.{View, answer_in, hand_after, part_stepped, stepped, upd, words_after}
 use Rattle.part_steps.specs.LogHoldings.{log_begin, log_end}
-use Rattle.part_steps.specs.PartHoldings.{own_open}
+use Rattle.part_steps.specs.SetHoldings.{own_open}
 use Rattle.part_steps.specs.PartSteps.{needs_line}
 use Rattle.part_steps.specs.PartTasks.{own_index, part_task, words_filled}
 use Rattle.part_steps.specs.Tasks.{kind_of_task}

@@ -4,7 +4,8 @@ ghost use Rattle.core_views.specs.HostChanges.{changes_host, moves_page};
 ghost use Rattle.core_views.specs.declared.place.HostPlace.TheVariants as host;
 ghost use Rattle.core_views.specs.declared.topics.OwnedFrame.{OwnedFrame};
 ghost use Rattle.core_views.specs.declared.place.Place.TheVariants as place;
-ghost use Rattle.mmu_core.specs.forms.host.HostSteps.{after_begin, after_end, after_frame_claim, after_frame_watch, host_note, host_outcome, host_part};
+ghost use Rattle.mmu_core.specs.forms.host.HostSteps.{after_begin, after_end, after_frame_claim, after_frame_watch, after_look, host_note, host_outcome};
+ghost use Rattle.mmu_core.specs.forms.host.HostSteps.{host_part};
 ghost use Rattle.mmu_core.specs.forms.host.HostSteps.{moves, revised, word_put, word_to_copy, word_to_store};
 ghost use Rattle.mmu_core.specs.lines.Rests.{Rests};
 ghost use Rattle.mmu_core.specs.machine.Steps.{place_at};
@@ -116,7 +117,7 @@ pub fn note(place: HostPlace, page: u64, hand: &Hand) -> u64
 {
     let topics = hand.topics();
     let may_end = match place {
-        HostPlace::Look { .. } => !hand.progress().owns(page),
+        HostPlace::Look { .. } => true,
         HostPlace::Claim { begun } => {
             let sizes = &hand.progress().sizes;
             loads_last_word(FreeMap::Frames, begun, sizes, &topics.frames.claim)
@@ -126,6 +127,20 @@ pub fn note(place: HostPlace, page: u64, hand: &Hand) -> u64
         _ => false,
     };
     if may_end { 1 } else { 0 }
+}
+
+// After the look at its own page.
+fn after_look(moves: bool, found: u64) -> Outcome
+    ensures { result ≡ after_look moves found }
+{
+    if HostWord::from_word(found).level() > 1 {
+        return Outcome::Ends(Answer::Refused(Refusal::IsHuge));
+    }
+    Outcome::Goes(Place::Host(if moves {
+        HostPlace::Claim { begun: false }
+    } else {
+        HostPlace::Begin(BeginPlace::Exclude)
+    }))
 }
 
 // After a step of its claim.
@@ -184,8 +199,7 @@ pub fn outcome(place: HostPlace, page: u64, change: HostChange, hand: &Hand, fou
         HostPlace::Look { .. } if !hand.progress().owns(page) => {
             return Outcome::Ends(Answer::Refused(Refusal::OutOfRange));
         }
-        HostPlace::Look { moves: true } => HostPlace::Claim { begun: false },
-        HostPlace::Look { moves: false } => HostPlace::Begin(BeginPlace::Exclude),
+        HostPlace::Look { moves } => return after_look(moves, found),
         HostPlace::Claim { begun } => {
             let next = claim_next(FreeMap::Frames, begun, sizes, &frames.claim, found);
             return after_frame_claim(next);

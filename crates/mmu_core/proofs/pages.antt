@@ -21,6 +21,7 @@ pub mod OwnedBehind
 pub mod PoolKept
 pub mod PoolPages
 pub mod Standing
+pub mod LinkMade
 pub mod TreeKept
 pub mod TreePlaces
 pub mod TreeStored

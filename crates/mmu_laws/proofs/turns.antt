@@ -1,5 +1,6 @@
 pub mod EntriesTaken
 pub mod LeadsStay
+pub mod EntriesLeft
 pub mod LeavesStay
 pub mod StepsBounded
 pub mod StepsCounted

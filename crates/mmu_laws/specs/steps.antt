@@ -1,4 +1,5 @@
 pub mod StepLaws
+pub mod NoteLaws
 pub mod EventLaws
 pub mod InvalidationLaws
 pub mod PublicationLaws

@@ -42,7 +42,8 @@ ghost use Rattle.mmu_laws.specs.steps.InvalidationLaws.{ReleasesLeaveNothing, Se
 ghost use Rattle.mmu_laws.specs.steps.LogLaws.{AllowedWritesAreOwed, MarksAreOfOwedPages, MarksStayOwed, SectionsEndWithNoneOwed};
 ghost use Rattle.mmu_laws.specs.steps.LogLaws.{WordsAreSetBeforeTheirLog, WritesAreForbiddenInLeaves};
 ghost use Rattle.mmu_laws.specs.steps.PublicationLaws.{OthersLeaveSlots, PublicationsAreInvalidated};
-ghost use Rattle.mmu_laws.specs.steps.StepLaws.{EnteringFlushes, NotesTellEnds, OthersCacheOneAtMost, RevisedWordsTell, StepsAreOnTheirAreas};
+ghost use Rattle.mmu_laws.specs.steps.StepLaws.{EnteringFlushes, OthersCacheOneAtMost, RevisedWordsTell, StepsAreOnTheirAreas};
+ghost use Rattle.mmu_laws.specs.steps.NoteLaws.{NotesTellEnds};
 ghost use Rattle.mmu_laws.specs.turns.Breaking.{BreakingChangesEntries};
 ghost use Rattle.mmu_laws.specs.turns.FewSteps.{FewSteps};
 ghost use Rattle.mmu_laws.specs.turns.Removal.{InstalledEntriesServe, LeavesStay};
@@ -175,7 +176,8 @@ pub fn the_steps_can_be_made()
 /// the pool's map, and a host line's of the map of frames, has note 1, and is its answer
 /// exactly where it finds 0; and so has the look at the last virtual processor, of a line that
 /// takes pages out of a dirty log, and it is its answer exactly where this one has no flush to
-/// make (vcpu-requests.rst, `KVM_REQUEST_WAIT`). Who enters the
+/// make (vcpu-requests.rst, `KVM_REQUEST_WAIT`), and the look at the host page that a line is to
+/// change, and it is its answer exactly where this page is part of a large one. Who enters the
 /// guest with a flush asked for has nothing cached after that step; each other step
 /// leaves at most one more translation (vcpu-requests.rst, KVM_REQ_TLB_FLUSH). The host
 /// word that is put to allow writes or forbid them, to have its page in memory or not, or

@@ -7,7 +7,7 @@ use Rattle.core_views.specs.declared.kind.StepKind.{StepKind}
 use Rattle.core_views.specs.declared.place.Place.{Place}
 use Rattle.core_views.specs.declared.sizes.Sizes.{Sizes}
 use Rattle.core_views.specs.declared.topics.Hold.{Hold}
-use Rattle.core_views.specs.declared.topics.Hold.TheVariants.{Owing, Loose}
+use Rattle.core_views.specs.declared.topics.Hold.TheVariants.{Owing}
 use Rattle.core_views.specs.declared.trace.Command.{Command}
 use Rattle.core_views.specs.declared.trace.Command.TheVariants.{Access}
 use Rattle.core_views.specs.declared.trace.Op.{Op}
@@ -23,9 +23,9 @@ use Rattle.part_steps.specs.PartSteps.{PartNeeds}
 use Rattle.part_steps.specs.PartTasks.{own_index, part_kind, part_task}
 use Rattle.part_steps.specs.Tasks.{kind_of_task, map_of}
 use Rattle.mmu_core.specs.forms.access.AccessSteps.{task_by, touch_of}
-use Rattle.mmu_core.specs.lines.Delays.{line_waits, waits_by}
-use Rattle.mmu_core.specs.lines.Forms.{note_at, part_at, RestsAt}
-use Rattle.mmu_core.specs.lines.PartAt.{task_at, touch_at}
+use Rattle.mmu_core.specs.lines.Delays.{waits_by}
+use Rattle.mmu_core.specs.lines.Forms.{note_at, part_at}
+use Rattle.mmu_core.specs.lines.PartAt.{touch_at}
 use Rattle.mmu_core.specs.lines.PartWaits.{is_owing, part_seen, part_waits, saw_open, word_owed}
 use Rattle.mmu_core.specs.machine.Enabled.{Enabled, IsNext}
 use Rattle.mmu_core.specs.machine.Steps.{place_at, task_of}
@@ -35,7 +35,7 @@ use Rattle.mmu_core.proofs.machine.Views.{named_is}
 use Rattle.mmu_core.proofs.machine.Which.{has_line_is, is_next}
 use Rattle.mmu_steps.specs.declared.waits.Waiting.{Waiting}
 use Rattle.mmu_steps.specs.declared.waits.Waiting.TheVariants.{Always, Never}
-use Rattle.mmu_steps.specs.Waits.{HasTried, WaitsAsLine, line_seen, seen_by, seen_in, unshares, waiting_at, waits}
+use Rattle.mmu_steps.specs.Waits.{HasTried, WaitsAsLine, seen_by, seen_in, unshares, waiting_at, waits}
 
 -- ---- a step of a part
 

@@ -1,4 +1,5 @@
 pub mod Advancing
 pub mod LineMade
+pub mod StayMade
 pub mod KindWaits
 pub mod forms

@@ -121,10 +121,21 @@ line_ends h answer =
     let more : length (h.answers ++ answer ∷ []) ≡ suc (length h.answers) = length_push h.answers answer ∙ omega arith in
     ap (λ n. line_under place.Between h.lines n) more
 
--- The hand once its record and its cache have changed, which it has line by line.
-pub filled_is : (h g f : Held) (line : Line) (p : Place) (v : ℕ) → line ≡ next_line h
-    → g ≡ record h { slots = records_at p (next_line h).command h.slots } → f ≡ record g { cached = caches_at p (next_line g).command g v }
-    → f ≡ with_cached h (caches_at p line.command (with_slots h (records_at p line.command h.slots)) v) (records_at p line.command h.slots)
-filled_is h g f line p v line_is recorded filled =
-    filled ∙ (ap (λ (x : Held). record x { cached = caches_at p (next_line x).command x v }) recorded
-    ∙ ap (λ (l : Line). with_cached h (caches_at p l.command (with_slots h (records_at p l.command h.slots)) v) (records_at p l.command h.slots)) (sym line_is))
+-- A step at no place of an access caches nothing, and its line uses what it used.
+caches_none : (p : Place) (command : Command) (h : Held) (v : ℕ) → ((q : AccessPlace) → p ≢ place.Access q) → caches_at p command h v ≡ h.cached
+caches_none (place.Access p) command h v none = absurd (none p refl)
+caches_none _ command h v none = refl
+
+pub loads_none : (p : Place) (command : Command) (h : Held) (v : ℕ) → ((q : AccessPlace) → p ≢ place.Access q)
+    → h.state.used ≡ (loads_at p command h v).used
+loads_none (place.Access p) command h v none = absurd (none p refl)
+loads_none _ command h v none = refl
+
+-- The hand once its record has changed, which it has line by line.
+pub recorded_is : (h g : Held) (line : Line) (p : Place) (v : ℕ) → line ≡ next_line h → ((q : AccessPlace) → p ≢ place.Access q)
+    → g ≡ record h { slots = records_at p (next_line h).command h.slots }
+    → g ≡ with_cached h (caches_at p line.command (with_slots h (records_at p line.command h.slots)) v) (records_at p line.command h.slots)
+recorded_is h g line p v line_is none recorded =
+    recorded ∙ (ap (λ (l : Line). record h { slots = records_at p l.command h.slots }) (sym line_is)
+    ∙ ap (λ (c : Buffer Translation). with_cached h c (records_at p line.command h.slots))
+    (sym (caches_none p line.command (with_slots h (records_at p line.command h.slots)) v none)))

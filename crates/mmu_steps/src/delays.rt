@@ -46,6 +46,7 @@ pub(crate) fn is_delay(waits: bool, place: Place, outcome: &Outcome) -> bool
 }
 
 // What has been counted where the line's next step comes.
+#[inline(always)]
 fn counted(place: Place, count: u64) -> u64
     ensures { result ≡ counted place count }
 {
@@ -55,6 +56,7 @@ fn counted(place: Place, count: u64) -> u64
     }
 }
 
+#[inline(always)]
 fn one_more(count: u64) -> u64
     ensures { result ≡ one_more count }
 {
@@ -62,6 +64,7 @@ fn one_more(count: u64) -> u64
 }
 
 /// The steps that are counted after a step.
+#[inline(always)]
 pub(crate) fn steps_behind(delay: bool, hand: &Hand) -> u64
     ensures { result ≡ steps_counted delay (counted hand.now.core.state.place hand.now.core.state.steps) }
 {
@@ -74,6 +77,7 @@ pub(crate) fn steps_behind(delay: bool, hand: &Hand) -> u64
 }
 
 /// The delays that are counted after it.
+#[inline(always)]
 pub(crate) fn delays_behind(delay: bool, hand: &Hand) -> u64
     ensures { result ≡ delays_counted delay (counted hand.now.core.state.place hand.now.core.state.delays) }
 {

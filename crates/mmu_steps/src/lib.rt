@@ -7,6 +7,7 @@
 mod delays;
 mod laws;
 mod parts;
+mod stay;
 mod step;
 mod waits;
 
@@ -14,7 +15,8 @@ pub use access_twins::{access_note, asks_flush};
 pub use laws::{knows, rests};
 pub use part_twins::{
     Closing, Hand, SLOT_SET_ROLE, SlotSet, WRITER, has_to_flush, has_writer, in_section,
-    needs_line, next_watched, page_of, page_owned, part_kind, swept_to, word_looked, words_filled,
+    needs_line, next_watched, page_of, page_owned, part_kind, swept_to, word_below, word_looked,
+    words_filled,
 };
 pub use parts::{allows, part_rests};
 pub use step::{advance, next_kind, next_step};

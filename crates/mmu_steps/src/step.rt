@@ -1,15 +1,15 @@
 //! The step that a hand allows, and the hand after it.
 ghost use Rattle.std.specs.Prelude.{◌≡◌, ◌≢◌, ◌<◌, ◌+◌, Some, length, true, false};
+ghost use Rattle.core_views.specs.declared.place.AccessPlace.{AccessPlace};
 ghost use Rattle.core_views.specs.declared.place.LogPlace.{LogPlace};
 ghost use Rattle.core_views.specs.declared.place.Place.TheVariants as at;
 ghost use Rattle.core_views.specs.Sizes.{AreSizes};
 ghost use Rattle.core_views.specs.Traces.{IsCommandFor};
-ghost use Rattle.mmu_core.specs.lines.Forms.{AcceptsAt, RestsAt, caches_at, first_place, loads_at, note_at, outcome_at, part_at, records_at};
-ghost use Rattle.mmu_core.specs.forms.access.AccessSteps.{use_found};
+ghost use Rattle.mmu_core.specs.lines.Forms.{AcceptsAt, RestsAt, first_place, note_at, outcome_at, part_at, records_at};
 ghost use Rattle.mmu_core.specs.lines.Delays.{line_waits};
 ghost use Rattle.mmu_core.specs.lines.Rests.{IsUnderWay, Rests};
 ghost use Rattle.mmu_core.specs.machine.Enabled.{Enabled};
-ghost use Rattle.mmu_core.specs.machine.Steps.{has_line, line_after, line_at, next, next_line, place_at, standing, task_at};
+ghost use Rattle.mmu_core.specs.machine.Steps.{has_line, line_after, line_at, next, next_line, place_at, standing, task_at, task_of};
 ghost use Rattle.mmu_core.specs.forms.access.Cached.{flushed};
 ghost use Rattle.part_steps.specs.declared.part_step.PartStep.TheVariants.{Claim, Frame};
 ghost use Rattle.part_steps.specs.PartBounds.{PartRests};
@@ -19,10 +19,11 @@ ghost use Rattle.part_steps.specs.TopicSteps.{HasRoom, topics_after};
 ghost use Rattle.spte_words.specs.Areas.{size_of};
 
 use crate::delays::{delays_behind, is_delay, steps_behind};
+use crate::stay::step_access;
 use crate::waits::Waiting;
-use access_twins::{access_caches, access_note, access_outcome, access_part, flush, touch};
+use access_twins::{access_note, access_part, flush, touch};
 use core_views::{
-    AccessPlace, Answer, AnsweredLine, Command, Kind, Line, LogPlace, Place, Translation,
+    AccessPlace, Answer, AnsweredLine, Command, Kind, Leaving, Line, LogPlace, Place,
 };
 use manager_twins::{
     host_first, host_note, host_outcome, host_part, log_first, log_next, log_note, log_reads,
@@ -57,10 +58,12 @@ fn first(hand: &Hand, line: &Line) -> Place
 fn place_of(hand: &Hand, line: &Line) -> Place
     ensures { result ≡ standing hand.now.core.state.place hand.now.core.state.sizes hand.now.core.slots line.now.command }
 {
-    let place = hand.progress().place;
-    match place {
-        Place::Between => first(hand, line),
-        _ => place,
+    match hand.progress().place {
+        Place::Between => {
+            let begun = first(hand, line);
+            begun
+        }
+        place => place,
     }
 }
 
@@ -79,6 +82,7 @@ fn note(place: Place, hand: &Hand, line: &Line) -> u64
 }
 
 // What the step of a place is to do.
+#[inline(always)]
 fn task(place: Place, hand: &Hand, line: &Line) -> Task
     requires part { PartRests hand.now.core }
     requires line { IsCommandFor hand.now.core.state.sizes line.now.actor line.now.command }
@@ -95,17 +99,75 @@ fn task(place: Place, hand: &Hand, line: &Line) -> Task
     }
 }
 
+// This step, which is the next one of the hand's line.
+#[inline(always)]
+#[tactic(auto, unfolding(mmu_core::specs::machine::Enabled::Enabled))]
+fn kind_made(task: &Task, hand: &Hand) -> Kind
+    requires left { length hand.now.core.answers < length hand.now.core.lines }
+    requires rests { Rests hand.now.core }
+    requires task { task.now ≡ task_of hand.now.core }
+    requires within { task.now.index < size_of (map_of hand.now.core.state.sizes) task.now.area }
+    ensures { Enabled hand.now.core result }
+{
+    kind_of(&hand.progress().sizes, task)
+}
+
+// The next step of a line, whatever its form.
+#[inline(never)]
+fn kind_of_form(hand: &Hand, line: &Line) -> Kind
+    requires left { length hand.now.core.answers < length hand.now.core.lines }
+    requires rests { Rests hand.now.core }
+    requires line { line.now ≡ line_at hand.now.core.state.place hand.now.core }
+    ensures { Enabled hand.now.core result }
+{
+    let task = task(place_of(hand, line), hand, line);
+    kind_made(&task, hand)
+}
+
+// The next step of an access that stands here, in the guest or before it.
+#[inline(always)]
+fn stay_kind(place: AccessPlace, hand: &Hand, line: &Line) -> Kind
+    requires left { length hand.now.core.answers < length hand.now.core.lines }
+    requires rests { Rests hand.now.core }
+    requires line { line.now ≡ line_at hand.now.core.state.place hand.now.core }
+    requires place { at.Access place ≡ place_at hand.now.core.state.place hand.now.core }
+    ensures { Enabled hand.now.core result }
+{
+    let Command::Access { gfn, word, op } = &line.command else {
+        unreachable!()
+    };
+    match place {
+        AccessPlace::Enter { .. } => kind_made(&part_task(hand, PartStep::Enter, 0), hand),
+        AccessPlace::Pause { .. } => kind_made(&part_task(hand, PartStep::Pause, 0), hand),
+        AccessPlace::Root { .. } => kind_made(&part_task(hand, PartStep::Root, 0), hand),
+        AccessPlace::Walk { .. } => kind_made(&part_task(hand, PartStep::Walk(*gfn), 0), hand),
+        AccessPlace::Touch => kind_made(&touch(hand, *gfn, *word, *op), hand),
+        AccessPlace::Leave(Leaving::Reached { .. }) => {
+            kind_made(&part_task(hand, PartStep::Leave, 1), hand)
+        }
+        AccessPlace::Leave(Leaving::Faults { .. }) => {
+            kind_made(&part_task(hand, PartStep::Leave, 0), hand)
+        }
+        AccessPlace::Fault(_) => kind_of_form(hand, line),
+    }
+}
+
 /// The one step that the hand allows: the next one of its line, in the order
 /// of the line's steps.
-#[tactic(auto, unfolding(mmu_core::specs::machine::Enabled::Enabled))]
+#[inline(always)]
 pub fn next_kind(hand: &Hand) -> Kind
     requires left { length hand.now.core.answers < length hand.now.core.lines }
     requires rests { Rests hand.now.core }
     ensures { Enabled hand.now.core result }
 {
     let line = hand.line();
-    let task = task(place_of(hand, line), hand, line);
-    kind_of(&hand.progress().sizes, &task)
+    match (hand.progress().place, &line.command) {
+        (Place::Access(place), Command::Access { .. }) => stay_kind(place, hand, line),
+        (Place::Between, Command::Access { .. }) => {
+            stay_kind(AccessPlace::Enter { again: false }, hand, line)
+        }
+        _ => kind_of_form(hand, line),
+    }
 }
 
 /// The step of a part that a line makes at this place; `None` where the guest
@@ -142,21 +204,6 @@ pub fn next_step(hand: &Hand) -> Option<PartStep>
     part_of(place_of(hand, line), line, hand)
 }
 
-// What is cached after the step of a place.
-fn fill_cache(place: Place, hand: &mut Hand, found: u64)
-    requires { length hand.old.core.answers < length hand.old.core.lines }
-    ensures core { hand.new.core ≡ record hand.old.core { cached = caches_at place (next_line hand.old.core).command hand.old.core found } }
-    ensures room { hand.new.room ≡ hand.old.room }
-{
-    let Place::Access(AccessPlace::Walk { again }) = place else {
-        return;
-    };
-    if let Command::Access { gfn, op, .. } = &hand.line().command {
-        let (gfn, op) = (*gfn, *op);
-        access_caches(AccessPlace::Walk { again }, hand, gfn, op, found);
-    }
-}
-
 // The manager's own record of the slots after the step of a place.
 fn record_step(place: Place, hand: &mut Hand)
     requires left { length hand.old.core.answers < length hand.old.core.lines }
@@ -170,42 +217,26 @@ fn record_step(place: Place, hand: &mut Hand)
     }
 }
 
-// Where the line stands after the step of a place, which reads no log, and the translation that
-// it uses from now on, where the step found one.
-fn outcome(place: Place, line: &Line, hand: &Hand, found: u64) -> (Outcome, Option<Translation>)
+// Where the line stands after the step of a place, which is none of an access and reads no log.
+fn outcome(place: Place, line: &Line, hand: &Hand, found: u64) -> Outcome
     requires part { PartRests hand.now.core }
     requires rests { RestsAt place line.now.command hand.now.core }
     requires other { (p : LogPlace) → place ≢ at.Log p }
-    ensures outcome { result.0 ≡ outcome_at place line.now.command hand.now.core found }
-    ensures used { use_found result.1 hand.now.core.state.used ≡ (loads_at place line.now.command hand.now.core found).used }
+    requires no_access { (p : AccessPlace) → place ≢ at.Access p }
+    ensures { result ≡ outcome_at place line.now.command hand.now.core found }
 {
     match (place, &line.command) {
-        (Place::Access(place), Command::Access { gfn, op, .. }) => {
-            access_outcome(place, hand, *gfn, *op, found)
-        }
-        (Place::SlotChange(place), command) => {
-            (slot_change_outcome(place, command, hand, found), None)
-        }
+        (Place::SlotChange(place), command) => slot_change_outcome(place, command, hand, found),
         (Place::Host(place), Command::ChangeHost { page, change }) => {
-            (host_outcome(place, *page, *change, hand, found), None)
+            host_outcome(place, *page, *change, hand, found)
         }
-        (Place::Log(_), _) => unreachable!(),
-        _ => (Outcome::Goes(place), None),
+        (Place::Access(_), _) | (Place::Log(_), _) => unreachable!(),
+        _ => Outcome::Goes(place),
     }
 }
 
-// The translation that the line uses from now on: the one that was found, if there is one.
-fn used_behind(found: Option<Translation>, hand: &Hand) -> Translation
-    ensures { result ≡ use_found found hand.now.core.state.used }
-{
-    match found {
-        Some(translation) => translation,
-        None => hand.progress().used,
-    }
-}
-
-// The effect of a line's step on the hand, but for its topics and for a flush, where it reads
-// no log.
+// The effect on the hand of a step of a line that is no access and reads no log, but for its topics
+// and for a flush.
 fn advance_line(hand: &mut Hand, place: Place, waits: bool, found: u64)
     requires left { length hand.old.core.answers < length hand.old.core.lines }
     requires part { PartRests hand.old.core }
@@ -214,6 +245,7 @@ fn advance_line(hand: &mut Hand, place: Place, waits: bool, found: u64)
     requires begun { IsUnderWay place }
     requires accepts { AcceptsAt place (next_line hand.old.core).command hand.old.core.state.sizes hand.old.core.slots }
     requires other { (p : LogPlace) → place ≢ at.Log p }
+    requires no_access { (p : AccessPlace) → place ≢ at.Access p }
     requires waits { waits ≡ line_waits place (next_line hand.old.core).command hand.old.core found }
     requires room { 0 < hand.old.room }
     ensures core { hand.new.core ≡ line_after (next_line hand.old.core) place hand.old.core found }
@@ -221,13 +253,12 @@ fn advance_line(hand: &mut Hand, place: Place, waits: bool, found: u64)
 {
     let line = hand.line();
     let (number, actor) = (line.number, line.actor);
-    let (outcome, translation) = outcome(place, line, hand, found);
-    let used = used_behind(translation, hand);
+    let outcome = outcome(place, line, hand, found);
+    let used = hand.progress().used;
     let delay = is_delay(waits, place, &outcome);
     let steps = steps_behind(delay, hand);
     let delays = delays_behind(delay, hand);
     record_step(place, hand);
-    fill_cache(place, hand, found);
     match outcome {
         Outcome::Goes(place) => hand.go_on(place, used, steps, delays),
         Outcome::Ends(answer) => {
@@ -276,8 +307,30 @@ fn advance_log(hand: &mut Hand, place: LogPlace, waits: bool, found: u64)
     }
 }
 
-// The step of the hand's line, where it has one left.
+// The step of the hand's line, which stands at no place of an access.
 #[inline(never)]
+fn step_form(hand: &mut Hand, kind: Kind, found: u64)
+    requires enabled { Enabled hand.old.core kind }
+    requires left { length hand.old.core.answers < length hand.old.core.lines }
+    requires rests { Rests hand.old.core }
+    requires no_access { (p : AccessPlace) → place_at hand.old.core.state.place hand.old.core ≢ at.Access p }
+    requires room { 0 < hand.old.room }
+    ensures line { hand.new.core
+        ≡ line_after (line_at hand.old.core.state.place hand.old.core) (place_at hand.old.core.state.place hand.old.core) hand.old.core found }
+    ensures room { length hand.new.core.answers + hand.new.room ≡ length hand.old.core.answers + hand.old.room }
+{
+    let waits = Waiting::of(kind, hand).waits(found);
+    let line = hand.line();
+    let place = place_of(hand, line);
+    match place {
+        Place::Log(place) => advance_log(hand, place, waits, found),
+        Place::Access(_) => unreachable!(),
+        _ => advance_line(hand, place, waits, found),
+    }
+}
+
+// The step of the hand's line, where it has one left.
+#[inline(always)]
 fn step_line(hand: &mut Hand, kind: Kind, found: u64)
     requires enabled { Enabled hand.old.core kind }
     requires room { 0 < hand.old.room }
@@ -286,18 +339,13 @@ fn step_line(hand: &mut Hand, kind: Kind, found: u64)
     ensures none { has_line hand.old.core ≡ false → hand.new.core ≡ hand.old.core }
     ensures room { length hand.new.core.answers + hand.new.room ≡ length hand.old.core.answers + hand.old.room }
 {
-    if hand.has_line() {
-        let waits = Waiting::of(kind, hand).waits(found);
-        let place = place_of(hand, hand.line());
-        match place {
-            Place::Log(place) => advance_log(hand, place, waits, found),
-            _ => advance_line(hand, place, waits, found),
-        }
+    if hand.has_line() && !step_access(hand, kind, found) {
+        step_form(hand, kind, found);
     }
 }
 
 // The effect of a step on the topics of the hand.
-#[inline(always)]
+#[inline(never)]
 fn advance_topics(hand: &mut Hand, kind: Kind, found: u64)
     requires sizes { AreSizes hand.old.core.state.sizes }
     requires room { HasRoom (kind_named kind.code) hand.old.core.topics }

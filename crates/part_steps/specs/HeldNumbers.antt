@@ -1,7 +1,8 @@
 -- What is held, as numbers: of the page that is owned, of the one that is retired, of the slot set, and of the host word.
-use Rattle.std.specs.Prelude.{ℕ, Bool, false, Option, Some, None}
+use Rattle.std.specs.Prelude.{ℕ, Bool, false, ◌==◌, ◌&&◌, Option, Some, None}
 use Rattle.core_views.specs.declared.topics.HostLook.{HostLook}
 use Rattle.core_views.specs.declared.topics.OwnedPage.{OwnedPage}
+use Rattle.core_views.specs.declared.topics.TableWalk.{TableWalk}
 
 -- the page that is owned, and how far it is filled
 abbrev pub page_owned : Option OwnedPage → ℕ
@@ -12,10 +13,10 @@ abbrev pub words_filled : Option OwnedPage → ℕ
 words_filled None = 0
 words_filled (Some o) = o.filled
 
--- Each word that is filled so far is 0.
-abbrev pub is_absent : Option OwnedPage → Bool
-is_absent None = false
-is_absent (Some o) = o.absent
+-- Each word that is filled so far is one of a table that may be linked in place of the entry that the walk has loaded.
+abbrev pub is_below : TableWalk → Option OwnedPage → Bool
+is_below walk None = false
+is_below walk (Some o) = o.below && (o.level == walk.level && o.entry == walk.entry)
 
 -- the role that is stored for the page
 abbrev pub role_filled : Option OwnedPage → ℕ

@@ -1,6 +1,6 @@
 -- What a hand holds that a step of an invalidation needs, and the change of a host page within one (kvm_main.c, kvm_mmu_invalidate_begin and
 -- kvm_mmu_invalidate_end).
-use Rattle.std.specs.Prelude.{◌≡◌, ◌+◌, ◌-◌, ◌<◌, ◌≤◌, ◌^◌, ℕ, Bool, true, false, ◌==◌, nat_lt, if◌then◌else◌, is_some}
+use Rattle.std.specs.Prelude.{◌≡◌, ◌+◌, ◌-◌, ◌<◌, ◌≤◌, ◌^◌, ℕ, Bool, true, false, ◌==◌, nat_lt, if◌then◌else◌, is_some, Some}
 use Rattle.core_views.specs.declared.topics.Checked.{Checked}
 use Rattle.core_views.specs.declared.topics.Checked.TheVariants as checked
 use Rattle.core_views.specs.declared.topics.Hold.TheVariants.{Exclusive, Loose}
@@ -9,12 +9,14 @@ use Rattle.core_views.specs.declared.topics.Topics.{Topics}
 use Rattle.core_views.specs.Held.{Held}
 use Rattle.core_views.specs.HostChanges.{is_own}
 use Rattle.part_steps.specs.declared.invalidations.Target.{Target}
-use Rattle.part_steps.specs.InvalidationRange.{IsAimed, IsOnRun, has_searched, invalidated_by, is_within_range, page_looked, page_of_target}
+use Rattle.part_steps.specs.InvalidationRange.{IsAimed, IsOnRun, has_searched, invalidated_by, is_within_range, page_looked, page_of_target, page_aimed}
 use Rattle.part_steps.specs.InvalidationRange.{range_end, range_start, run_or_none, target_end, target_start}
 use Rattle.part_steps.specs.FrameTopics.{is_uncopied}
 use Rattle.part_steps.specs.PartHoldings.{HoldsSet}
 use Rattle.part_steps.specs.StayTopics.{no_flush}
 use Rattle.part_steps.specs.SweepHoldings.{IsSwept}
+use Rattle.spte_words.specs.HostWords.{host_level}
+use Rattle.part_steps.specs.HeldNumbers.{word_looked}
 
 -- ---- what was loaded of their words
 
@@ -88,6 +90,13 @@ pub record MayCount (count : ℕ) (t : Topics) : Type 0 where
   pub is : count ≡ (if t.invalidations.opened then t.invalidations.count - 1 else t.invalidations.count + 1)
   pub opens : t.invalidations.opened ≡ false → MayOpen t
   pub closes : t.invalidations.opened ≡ true → t.invalidations.raised ≡ true
+
+-- The host page for which an invalidation is opened, if it is for one, is the actor's own, which saw that the host maps it by itself and not as part of a large
+-- page (mmu.rst, "Large pages").
+abbrev pub OpensOnSmallPage : Held → Type 0
+OpensOnSmallPage h =
+    h.topics.invalidations.opened ≡ false → (page : ℕ) → page_aimed h.topics ≡ Some page
+    → (is_own h.state.sizes h.state.actor page ≡ true) × (nat_lt 1 (host_level (word_looked h.topics.host)) ≡ false)
 
 -- The next virtual processor may be asked for a flush, outside of every section: with an own invalidation open under the lock that the actor has alone, the
 -- first one once no leaf of its frames is left; and with none without the lock.

@@ -14,6 +14,7 @@ pub mod HeldNumbers
 pub mod EntryWords
 pub mod PartTasks
 pub mod PartHoldings
+pub mod SetHoldings
 pub mod RunHoldings
 pub mod SweepHoldings
 pub mod InvalidationHoldings

@@ -7,8 +7,10 @@ use Rattle.core_views.specs.declared.place.SlotField.TheVariants as field
 use Rattle.core_views.specs.declared.topics.MapClaim.{MapClaim}
 use Rattle.core_views.specs.declared.topics.OwnedPage.{OwnedPage}
 use Rattle.core_views.specs.declared.topics.SlotSearch.{SlotSearch}
+use Rattle.core_views.specs.declared.topics.TableWalk.{TableWalk}
 use Rattle.core_views.specs.declared.topics.Topics.{Topics}
 use Rattle.spte_words.specs.Bits.{has_bit}
+use Rattle.spte_words.specs.Entries.{word_below}
 use Rattle.spte_words.specs.Flags.{flags_live, flags_logged, flags_read_only}
 use Rattle.part_steps.specs.StayTopics.{kept_search}
 
@@ -36,8 +38,12 @@ tried_bit claim = trailing_zeros w64 claim.seen
 abbrev pub is_won : MapClaim → ℕ → Bool
 is_won claim v = has_bit (tried_bit claim) v
 
-abbrev pub claimed : MapClaim → ℕ → Option OwnedPage
-claimed claim v = if is_won claim v then Some (record { page = 64 * claim.at + tried_bit claim; filled = 0; absent = true; role = 0 }) else None
+-- The page is to be filled as a table for the entry that the walk has loaded, or as a slot set.
+abbrev pub claimed : TableWalk → MapClaim → ℕ → Option OwnedPage
+claimed walk claim v =
+    if is_won claim v
+    then Some (record { page = 64 * claim.at + tried_bit claim; filled = 0; entry = walk.entry; level = walk.level; below = true; role = 0 })
+    else None
 
 -- a claim after its try: over, or with the bits seen now
 abbrev pub tried : MapClaim → ℕ → MapClaim
@@ -53,7 +59,9 @@ filled_more None v = None
 filled_more (Some o) v = Some (record {
   page = o.page;
   filled = o.filled + 1;
-  absent = o.absent && (nat_le 512 o.filled || v == 0);
+  entry = o.entry;
+  level = o.level;
+  below = o.below && (nat_le 512 o.filled || v == word_below o.level o.entry o.filled);
   role = if o.filled == 512 then v else o.role;
 })
 

@@ -1,21 +1,19 @@
 -- What a hand holds that a step of a part needs: of pages, of the walk, of the look-up and of the invalidations.
-use Rattle.std.specs.Prelude.{◌≡◌, ◌≢◌, ◌+◌, ◌/◌, ◌^◌, ◌<◌, ◌≤◌, ◌⊎◌, ℕ, Bool, true, false, ◌==◌, ◌&&◌, not, if◌then◌else◌, Some, None, is_some}
+use Rattle.std.specs.Prelude.{◌≡◌, ◌≢◌, ◌+◌, ◌-◌, ◌/◌, ◌^◌, ◌<◌, ◌≤◌, ◌⊎◌, ℕ, Bool, true, false, ◌==◌, ◌&&◌, not, if◌then◌else◌, Some, None, is_some}
 use Rattle.core_views.specs.declared.topics.Checked.TheVariants as checked
-use Rattle.core_views.specs.declared.topics.Hold.TheVariants.{Loose, Shared, Exclusive}
+use Rattle.core_views.specs.declared.topics.Hold.TheVariants.{Loose, Shared}
 use Rattle.core_views.specs.declared.topics.Invalidations.{Invalidations}
 use Rattle.core_views.specs.declared.topics.Stay.TheVariants.{Section}
 use Rattle.core_views.specs.declared.topics.TableWalk.{TableWalk}
 use Rattle.core_views.specs.declared.topics.Topics.{Topics}
-use Rattle.core_views.specs.Held.{Held}
-use Rattle.core_views.specs.Sizes.{actors_of}
 use Rattle.core_views.specs.Slots.{contains}
-use Rattle.spte_words.specs.declared.spte_kind.SpteKind.TheVariants.{Leaf}
+use Rattle.spte_words.specs.declared.spte_kind.SpteKind.{SpteKind}
+use Rattle.spte_words.specs.declared.spte_kind.SpteKind.TheVariants.{Absent, Leaf}
 use Rattle.spte_words.specs.Entries.{can_write, host_writable, kind_of, level_span, mmu_writable, table_word}
 use Rattle.spte_words.specs.HostWords.{host_present}
-use Rattle.part_steps.specs.SetWords.{set_role}
 use Rattle.part_steps.specs.SlotWords.{page_of}
 pub use Rattle.part_steps.specs.RunHoldings.{MapsRun}
-use Rattle.part_steps.specs.PartTasks.{entry_index, number_or_none, words_filled, is_absent, role_filled, own_index, page_retired, word_looked}
+use Rattle.part_steps.specs.PartTasks.{entry_index, number_or_none, words_filled, is_below, role_filled, word_looked}
 
 -- the actor whose state word comes next, where those before this place were looked at: each but the own
 abbrev pub next_watched : ℕ → ℕ → ℕ
@@ -46,11 +44,12 @@ pub record SawEntry (gfn : ℕ) (walk : TableWalk) : Type 0 where
   pub over : IsOver gfn walk
   pub loaded : walk.index ≡ entry_index gfn walk.level
 
--- The page that is owned is filled whole, as a table of the level whose entries are absent.
-pub record OwnsTable (level : ℕ) (t : Topics) : Type 0 where
+-- The page that is owned is filled whole, as a table that may be linked in place of the entry that the walk has loaded: its entries are the children of a large
+-- leaf, or absent, and its role is a level lower.
+pub record OwnsTable (t : Topics) : Type 0 where
   pub whole : words_filled t.owned ≡ 513
-  pub absent : is_absent t.owned ≡ true
-  pub role : role_filled t.owned ≡ level
+  pub below : is_below t.walk t.owned ≡ true
+  pub role : role_filled t.owned ≡ t.walk.level - 1
 
 -- A slot with the guest frame was loaded whole.
 pub record FoundSlot (gfn : ℕ) (t : Topics) : Type 0 where
@@ -86,6 +85,23 @@ pub record MayEnter (gfn : ℕ) (t : Topics) : Type 0 where
   pub saw : SawEntry gfn t.walk
   pub owes_none : t.owed ≡ None
 
+-- A table may be linked in place of an entry of this kind: one that is absent, or a leaf.
+abbrev pub takes_table : SpteKind → Bool
+takes_table Absent = true
+takes_table Leaf = true
+takes_table _ = false
+
+-- A page that was filled as a table may be linked (tdp_mmu.c, kvm_tdp_mmu_map, tdp_mmu_split_huge_page): in a section, sharing the lock, the entry of the guest
+-- frame was seen above the lowest level. It is absent, and a fault may store there; or it is a large leaf, which a table of its children takes the place of.
+pub record MayLink (gfn : ℕ) (t : Topics) : Type 0 where
+  pub shares : t.hold ≡ Shared
+  pub section : t.stay ≡ Section
+  pub saw : SawEntry gfn t.walk
+  pub owes_none : t.owed ≡ None
+  pub upper : 2 ≤ t.walk.level
+  pub takes : takes_table (kind_of t.walk.level t.walk.entry) ≡ true
+  pub enters : kind_of t.walk.level t.walk.entry ≡ Absent → MayEnter gfn t
+
 -- The entry that was loaded isn't a leaf that allows writes.
 abbrev pub SawNoWrites : TableWalk → Type 0
 SawNoWrites walk = kind_of walk.level walk.entry ≡ Leaf → can_write walk.entry ≡ false
@@ -114,30 +130,3 @@ pub record MayMark (t : Topics) : Type 0 where
   pub section : t.stay ≡ Section
   pub owes : is_some t.owed ≡ true
   pub found : FoundSlot (number_or_none t.owed) t
-
--- The page that is owned is filled whole, as a slot set.
-pub record OwnsSet (t : Topics) : Type 0 where
-  pub whole : words_filled t.owned ≡ 513
-  pub role : role_filled t.owned ≡ set_role
-
--- how many invalidations are open of the actor's own
-abbrev pub own_open : Invalidations → ℕ
-own_open n = if n.opened then 1 else 0
-
--- A slot set may be published: it is owned and filled whole, the actor has the lock alone, under which it has seen that no invalidation is open but its own,
--- which is of no host page, and no page is retired yet.
-pub record MayPublish (t : Topics) : Type 0 where
-  pub owns : OwnsSet t
-  pub alone : t.hold ≡ Exclusive
-  pub looked : t.invalidations.checked ≡ checked.Count
-  pub none_open : t.invalidations.count ≡ own_open t.invalidations
-  pub of_no_page : t.invalidations.opened ≡ true → t.invalidations.own.pages ≡ None
-  pub none_retired : t.retired ≡ None
-
--- A page is retired, one of the pool, and each other actor was watched since; the actor owns no page, and has no invalidation open.
-pub record MayGiveOld (h : Held) : Type 0 where
-  pub leaves : is_some h.topics.retired ≡ true
-  pub in_pool : page_retired h.topics.retired < h.state.sizes.pool
-  pub owns_none : h.topics.owned ≡ None
-  pub watched : actors_of h.state.sizes ≤ next_watched (own_index h) h.topics.watched
-  pub closed : h.topics.invalidations.opened ≡ false

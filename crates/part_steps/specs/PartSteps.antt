@@ -1,5 +1,5 @@
 -- The steps of the machine's parts: what each needs of the hand, and which word it is on.
-use Rattle.std.specs.Prelude.{◌≡◌, ◌≢◌, ◌-◌, ◌^◌, ◌<◌, ◌≤◌, ◌⊎◌, ℕ, Bool, true, false, None, ◌+◌, ◌&&◌}
+use Rattle.std.specs.Prelude.{◌≡◌, ◌≢◌, ◌^◌, ◌<◌, ◌≤◌, ◌⊎◌, ℕ, Bool, true, false, None, ◌+◌, ◌&&◌}
 use Rattle.core_views.specs.declared.actor.Actor.{Actor}
 use Rattle.core_views.specs.declared.actor.Actor.TheVariants.{Vcpu}
 use Rattle.core_views.specs.declared.topics.Hold.{Hold}
@@ -10,16 +10,15 @@ use Rattle.core_views.specs.declared.topics.Topics.{Topics}
 use Rattle.core_views.specs.Held.{Held}
 pub use Rattle.core_views.specs.Held.{has_line}
 use Rattle.core_views.specs.Sizes.{actors_of}
-use Rattle.spte_words.specs.declared.spte_kind.SpteKind.TheVariants as entry_kind
 use Rattle.spte_words.specs.Areas.{words_of_bits}
-use Rattle.spte_words.specs.Entries.{kind_of}
 use Rattle.part_steps.specs.declared.part_step.PartStep.{PartStep}
 use Rattle.part_steps.specs.declared.part_step.PartStep.TheVariants as part
 use Rattle.part_steps.specs.PartTasks.{own_index, page_owned, word_looked}
 use Rattle.part_steps.specs.FrameHoldings.{MayCopy, MayGiveFrame, MayStore, revises}
 use Rattle.part_steps.specs.PartHoldings.{next_watched, OwnsPage, HasToFill, HasRoleToSet, HoldsSet, IsOver, MayBring, OwnsTable, MayEnter}
-use Rattle.part_steps.specs.PartHoldings.{IsEnd, MapsRun, MayFix, MayGiveOld, MayMark, MayPublish, SawNoWrites}
-use Rattle.part_steps.specs.InvalidationHoldings.{MayAsk, MayChange, MayCount, MayEndInvalidation, MaySetEnd, MaySetStart}
+use Rattle.part_steps.specs.PartHoldings.{IsEnd, MapsRun, MayFix, MayLink, MayMark, SawNoWrites}
+use Rattle.part_steps.specs.SetHoldings.{MayGiveOld, MayPublish}
+use Rattle.part_steps.specs.InvalidationHoldings.{MayAsk, MayChange, MayCount, MayEndInvalidation, MaySetEnd, MaySetStart, OpensOnSmallPage}
 use Rattle.part_steps.specs.SweepHoldings.{MaySweep, MayWalkAnew, MayZap}
 use Rattle.part_steps.specs.LockHoldings.{MayRelease}
 use Rattle.part_steps.specs.LogHoldings.{MayArm, MayProtect, MayReadLog, MayTake}
@@ -100,9 +99,7 @@ PartNeeds part.Root h = Unit {0}
 PartNeeds (part.Walk gfn) h = IsOver gfn h.topics.walk × (is_sweeping h.topics ≡ false) × (walks_anew h.topics ≡ false)
 PartNeeds (part.Sweep gfn) h = MaySweep gfn h.topics
 PartNeeds (part.WalkAnew gfn) h = MayWalkAnew gfn h.topics
-PartNeeds (part.Link gfn) h =
-    MayEnter gfn h.topics × (2 ≤ h.topics.walk.level) × (kind_of h.topics.walk.level h.topics.walk.entry ≡ entry_kind.Absent)
-    × OwnsTable (h.topics.walk.level - 1) h.topics
+PartNeeds (part.Link gfn) h = MayLink gfn h.topics × OwnsTable h.topics
 PartNeeds (part.Leaf gfn write) h = MayEnter gfn h.topics × MapsRun gfn h.topics × SawNoWrites h.topics.walk × IsEnd h.topics.walk.level h.topics.walk.entry
 PartNeeds (part.Fix gfn) h = MayFix gfn h.topics
 PartNeeds part.Mark h = MayMark h.topics
@@ -115,7 +112,7 @@ PartNeeds part.Clear h = MayGiveOld h
 PartNeeds part.GiveOld h = MayGiveOld h
 PartNeeds (part.SetStart first gfn) h = MaySetStart first gfn h.topics × (first < 2 ^ 64) × (gfn < 2 ^ 64)
 PartNeeds (part.SetEnd last gfn) h = MaySetEnd last gfn h.topics × (last < 2 ^ 64) × (gfn < 2 ^ 64)
-PartNeeds (part.SetCount count) h = MayCount count h.topics
+PartNeeds (part.SetCount count) h = MayCount count h.topics × OpensOnSmallPage h
 PartNeeds (part.SetSeq seq) h = MayEndInvalidation h.topics × (seq ≡ h.topics.invalidations.seq + 1)
 PartNeeds (part.Zap gfn) h = MayZap gfn h.topics
 PartNeeds (part.Ask index) h = MayAsk index h

@@ -17,7 +17,7 @@ use Rattle.spte_words.specs.HostWords.{with_presence}
 use Rattle.part_steps.specs.declared.task.Task.{Task}
 use Rattle.part_steps.specs.declared.part_step.PartStep.{PartStep}
 use Rattle.part_steps.specs.declared.part_step.PartStep.TheVariants as part
-pub use Rattle.part_steps.specs.HeldNumbers.{is_absent, number_or_none, page_retired, page_owned, role_filled, set_held, word_looked, words_filled}
+pub use Rattle.part_steps.specs.HeldNumbers.{is_below, number_or_none, page_retired, page_owned, role_filled, set_held, word_looked, words_filled}
 pub use Rattle.part_steps.specs.EntryWords.{entry_index, leaf_fixed, leaf_written, link_written, puts_write, table_page}
 pub use Rattle.part_steps.specs.InvalidationRange.{page_looked}
 use Rattle.part_steps.specs.SlotWords.{page_of, slot_index}

@@ -64,7 +64,7 @@ part_topics part.Exclude t v =
     record t { hold = if v == 0 then Exclusive else t.hold; invalidations = unchecked t.invalidations; flush = flush_kept (v == 0) t }
 part_topics part.Release t v = let_go t
 part_topics (part.Map word) t v = record t { claim = record { at = word + (if v == 0 then 1 else 0); seen = v } }
-part_topics part.Claim t v = record t { owned = claimed t.claim v; claim = tried t.claim v }
+part_topics part.Claim t v = record t { owned = claimed t.walk t.claim v; claim = tried t.claim v }
 part_topics (part.Fill value) t v = record t { owned = filled_more t.owned v }
 part_topics (part.Role value) t v = record t { owned = filled_more t.owned v }
 part_topics part.Give t v = given_back t

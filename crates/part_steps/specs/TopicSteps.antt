@@ -71,7 +71,7 @@ topics_by kind.Unshare z k t v = let_go t
 topics_by kind.Exclude z k t v =
     record t { hold = if v == 0 then Exclusive else t.hold; invalidations = unchecked t.invalidations; flush = flush_kept (v == 0) t }
 topics_by kind.Release z k t v = let_go t
-topics_by kind.Claim z k t v = record t { owned = claimed t.claim v; claim = tried t.claim v }
+topics_by kind.Claim z k t v = record t { owned = claimed t.walk t.claim v; claim = tried t.claim v }
 topics_by kind.Fill z k t v = word_filled (is_content z k.word) t v
 topics_by kind.Give z k t v = given_back t
 topics_by kind.Set z k t v = record t { invalidations = stored k.word k.old (page_aimed t) t.invalidations v }

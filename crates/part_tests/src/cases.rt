@@ -142,7 +142,8 @@ fn text_of(alloc: Global, came: &Came) -> Result<String, Fail> {
     Ok(text)
 }
 
-fn actor_named(name: &str) -> Option<Actor> {
+/// The actor of this name, of those that tables name.
+pub fn actor_named(name: &str) -> Option<Actor> {
     match name {
         "v0" => Some(Actor::Vcpu(0)),
         "v1" => Some(Actor::Vcpu(1)),

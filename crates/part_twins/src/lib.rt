@@ -5,12 +5,16 @@
 
 mod needs;
 mod part_step;
+mod runs;
 mod slot_words;
 mod task;
 
 pub use hands::{Closing, Hand, SlotSet};
 pub use needs::{has_needs, needs_line, next_watched};
-pub use part_step::{page_owned, part_kind, part_task, table_page, word_looked, words_filled};
+pub use part_step::{
+    page_owned, part_kind, part_task, table_page, word_below, word_looked, words_filled,
+};
+pub use runs::maps_run;
 pub use slot_words::{SLOT_SET_ROLE, is_fixable, page_of, set_word};
 pub use task::kind_of;
 pub use topic_twins::{

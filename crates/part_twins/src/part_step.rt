@@ -12,7 +12,7 @@ ghost use Rattle.part_steps.specs.PartTasks.{exchanges_host, part_kind, part_tas
 ghost use Rattle.part_steps.specs.PartSteps.{PartNeeds};
 ghost use Rattle.part_steps.specs.SlotWords.{slot_index};
 ghost use Rattle.part_steps.specs.SweepTopics.{at_top, gone_up};
-ghost use Rattle.spte_words.specs.Entries.{table_word, write_bit};
+ghost use Rattle.spte_words.specs.Entries.{table_word, word_below, write_bit};
 ghost use Rattle.spte_words.specs.HostWords.{host_frame, with_presence};
 ghost use Rattle.part_steps.specs.Tasks.{loads, map_of};
 ghost use Rattle.part_steps.specs.FrameTopics.{frame_owned};
@@ -77,6 +77,17 @@ pub fn words_filled(owned: Option<OwnedPage>) -> u64
         Some(owned) => owned.filled,
         None => 0,
     }
+}
+
+/// What is to stand at the next place of the page that is owned, in a table that is linked in place
+/// of the entry that the walk has loaded.
+pub fn word_below(topics: &Topics) -> u64
+    requires { words_filled topics.now.owned < 512 }
+    ensures { result ≡ word_below topics.now.walk.level topics.now.walk.entry (words_filled topics.now.owned) }
+{
+    let entry = Spte::from_word(topics.walk.entry);
+    let place = words_filled(topics.owned) as u32;
+    entry.below(topics.walk.level, place).word()
 }
 
 // Fills the next word of the page.
@@ -171,6 +182,7 @@ fn slot(map: &WordMap, search: &SlotSearch, note: u64) -> Task
 }
 
 // Loads the guest frame's entry in the table that the walk has come to.
+#[inline(always)]
 fn walk(map: &WordMap, walk: &TableWalk, gfn: u64, note: u64) -> Task
     requires map { IsWordMap map.now }
     requires from { 1 ≤ walk.now.level }
@@ -388,6 +400,7 @@ fn give_frame(owned: Option<OwnedFrame>, note: u64) -> Task
 }
 
 // What the step does with the actor's own state word.
+#[inline(always)]
 fn own_task(step: PartStep, own: u64, note: u64) -> Task
     ensures area { result.area ≡ Area.State }
     ensures index { result.index ≡ own }

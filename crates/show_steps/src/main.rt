@@ -1,18 +1,11 @@
-//! `show_steps`: each step of a run, one line for each turn. All that matters is in `run`.
+//! `show_steps`: each step of a run, one line for each turn. All that matters is in `run` of `step_printing`.
 #![tactic(auto)]
 
-mod command;
-mod laws;
-mod lines;
-mod program;
-mod row;
-mod step_printer;
-
 use core_views::NoMemory;
-use program::run;
 use run_status::{Status, arguments};
 use std::io;
 use std::process::ExitCode;
+use step_printing::run;
 use tdp_io::{StdSink, StdSource};
 
 fn main(rt: HostRuntime) -> ExitCode {
@@ -26,8 +19,3 @@ fn main(rt: HostRuntime) -> ExitCode {
     };
     ExitCode::from(status.code())
 }
-
-#[cfg(test)]
-mod cases;
-#[cfg(test)]
-mod tests;

@@ -1,8 +1,12 @@
 -- The child of a large leaf: a leaf one level down, which says of each guest frame that it is over what the large one says.
-use Rattle.std.proofs.Common.{◌≡◌, ◌+◌, ◌-◌, ◌*◌, ◌/◌, ◌%◌, ◌^◌, ◌<◌, ◌≤◌, ℕ, refl, sym, ap, ◌∙◌, arith}
-use Rattle.spte_words.specs.declared.spte_kind.SpteKind.TheVariants.{Leaf}
-use Rattle.spte_words.specs.Entries.{can_write, child_over, child_word, frame_in, host_writable, kind_of, leaf_word, level_span, mapped_frame, mmu_writable}
-use Rattle.spte_words.proofs.ReadsEntries.{kind_of_leaf, leaf_can_write, leaf_frame, leaf_host_writable, leaf_mmu_writable}
+use Rattle.std.proofs.Common.{◌≡◌, ◌+◌, ◌-◌, ◌*◌, ◌/◌, ◌%◌, ◌^◌, ◌<◌, ◌≤◌, ℕ, refl, sym, subst, ap, ◌∙◌, arith}
+use Rattle.std.proofs.lemmas.Bool.Decides.{nat_tests}
+use Rattle.std.specs.Prelude.{Bool, true, false, ◌&&◌, nat_lt, if◌then◌else◌}
+use Rattle.spte_words.specs.declared.spte_kind.SpteKind.{SpteKind}
+use Rattle.spte_words.specs.declared.spte_kind.SpteKind.TheVariants.{Absent, Leaf}
+use Rattle.spte_words.specs.Entries.{absent_word, can_write, child_over, child_word, frame_in, host_writable, kind_of, leaf_word, level_span, mapped_frame}
+use Rattle.spte_words.specs.Entries.{is_large_leaf, is_leaf, mmu_writable, word_below}
+use Rattle.spte_words.proofs.ReadsEntries.{absent_fits, kind_of_leaf, leaf_can_write, leaf_fits, leaf_frame, leaf_host_writable, leaf_mmu_writable}
 use Rattle.spte_words.proofs.Spans.{each_span, span_above}
 
 child_is : (level word i : ℕ) → child_word level word i
@@ -60,3 +64,32 @@ child_maps level word gfn from to small =
     let frame = child_frame level word (gfn / level_span (level - 1) % 512) small in
     let place = place_in_child level gfn from to in
     omega (arith, frame, place)
+
+-- ---- what stands in a table that is linked in an entry's place
+
+-- Of a large leaf it is the child, and where nothing is mapped nothing.
+pub below_leaf : (level word i : ℕ) → 2 ≤ level → kind_of level word ≡ Leaf → word_below level word i ≡ child_word level word i
+below_leaf level word i upper leaf =
+    let large : nat_lt 1 level ≡ true = grind (arith, nat_tests) in
+    ap (λ (b : Bool). if b then child_word level word i else absent_word) (ap (λ (k : SpteKind). is_leaf k && nat_lt 1 level) leaf ∙ large)
+
+pub below_absent : (level word i : ℕ) → kind_of level word ≡ Absent → word_below level word i ≡ absent_word
+below_absent level word i none = ap (λ (k : SpteKind). if is_leaf k && nat_lt 1 level then child_word level word i else absent_word) none
+
+pub frame_small : (word : ℕ) → frame_in word < 2 ^ 40
+unfolding frame_in
+frame_small word = omega arith
+
+-- It is a word of 64 bits.
+pub below_fits : (level word i : ℕ) → level ≤ 4 → i < 512 → word_below level word i < 2 ^ 64
+below_fits level word i most low = by (is_large_leaf level word) refl
+  where
+    by : (b : Bool) → is_large_leaf level word ≡ b → (if b then child_word level word i else absent_word) < 2 ^ 64
+    by false is = absent_fits
+    by true is =
+        let upper : 2 ≤ level = grind (arith, nat_tests) in
+        let small = each_span (λ s. i * s < 2 ^ 37) (omega arith) (omega arith) (omega arith) (omega arith)
+        (level - 1) (omega (arith, upper)) (omega (arith, most)) in
+        subst (λ w. w < 2 ^ 64) (sym (child_is level word i))
+        (leaf_fits (level - 1) (frame_in word + i * level_span (level - 1)) (can_write word) (host_writable word) (mmu_writable word)
+        (let frame = frame_small word in omega (arith, frame, small)))

@@ -19,7 +19,7 @@ unfolding table_word
 table_sum page = omega arith
 
 -- The words have 64 bits.
-pub leaf_fits : (level frame : ℕ) (w hw mw : Bool) → frame < 2 ^ 40 → leaf_word level frame w hw mw < 2 ^ 64
+pub leaf_fits : (level frame : ℕ) (w hw mw : Bool) → frame < 2 ^ 41 → leaf_word level frame w hw mw < 2 ^ 64
 leaf_fits level frame w hw mw small = omega (arith, leaf_sum level frame w hw mw, one_small w, one_small (nat_lt 1 level), one_small hw, one_small mw)
 
 pub table_fits : (page : ℕ) → page < 2 ^ 32 → table_word page < 2 ^ 64

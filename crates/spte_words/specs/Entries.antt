@@ -1,6 +1,6 @@
 -- Second-stage page table entries (Documentation/virt/kvm/mmu.rst, "Shadow pages"): bits 0, 1 and 2 read, write and execute;
 -- bit 7 a large leaf; bit 11 present; bits 12 to 51 a frame or a pool page; bit 57 host-writable; bit 58 MMU-writable; all else 0.
-use Rattle.std.specs.Prelude.{◌+◌, ◌-◌, ◌*◌, ◌/◌, ◌%◌, ◌^◌, ◌==◌, ℕ, Bool, ◌&&◌, ◌||◌, not, nat_lt, if◌then◌else◌}
+use Rattle.std.specs.Prelude.{◌+◌, ◌-◌, ◌*◌, ◌/◌, ◌%◌, ◌^◌, ◌==◌, ℕ, Bool, ◌&&◌, ◌||◌, not, nat_lt, if◌then◌else◌, true, false}
 use Rattle.spte_words.specs.declared.spte_kind.SpteKind.{SpteKind}
 use Rattle.spte_words.specs.declared.spte_kind.SpteKind.TheVariants.{Absent, Frozen, Leaf, Table}
 use Rattle.spte_words.specs.Bits.{has_bit, bit_if}
@@ -71,3 +71,15 @@ child_word level word i = leaf_word (level - 1) (frame_in word + i * level_span 
 -- the one that is over a guest frame of the span
 abbrev pub child_over : ℕ → ℕ → ℕ → ℕ
 child_over level word gfn = child_word level word (gfn / level_span (level - 1) % 512)
+
+abbrev pub is_leaf : SpteKind → Bool
+is_leaf Leaf = true
+is_leaf _ = false
+
+-- a leaf over more than one page
+abbrev pub is_large_leaf : ℕ → ℕ → Bool
+is_large_leaf level word = is_leaf (kind_of level word) && nat_lt 1 level
+
+-- the word of entry i of a table that is linked in this entry's place: the child of a large leaf, and in place of any other entry nothing
+abbrev pub word_below : ℕ → ℕ → ℕ → ℕ
+word_below level word i = if is_large_leaf level word then child_word level word i else absent_word

@@ -1,6 +1,6 @@
 ghost use Rattle.std.specs.Prelude.{◌≡◌, ℕ, ◌+◌, ◌<◌, ◌≤◌, ◌^◌};
 ghost use Rattle.spte_words.specs.Entries.{absent_word, frozen_word, table_word, leaf_word, mapped_frame, frame_in, can_write, host_writable};
-ghost use Rattle.spte_words.specs.Entries.{mmu_writable, kind_of, with_write, without_write, child_word, level_span};
+ghost use Rattle.spte_words.specs.Entries.{mmu_writable, kind_of, with_write, without_write, child_word, level_span, word_below};
 
 use crate::SpteKind;
 use crate::bit::bit_if;
@@ -67,10 +67,11 @@ impl Spte {
     }
 
     /// A leaf of level 1 to 3: `frame` is the first of its span, `w` allows
-    /// guest writes, `hw` and `mw` say that the host and the MMU would.
+    /// guest writes, `hw` and `mw` say that the host and the MMU would. Its field has 40 bits,
+    /// and one more is taken for the children of a word with frames at its end: no machine has one.
     #[tactic(auto, unfolding(crate::specs::Entries::leaf_word))]
     pub fn leaf(level: u8, frame: u64, w: bool, hw: bool, mw: bool) -> Spte
-        requires { frame < 2 ^ 40 }
+        requires { frame < 2 ^ 41 }
         ensures { result ≡ leaf_word level frame w hw mw }
     {
         let low = READ + bit_if(WRITE, w) + EXECUTE + bit_if(LARGE, level > 1) + PRESENT;
@@ -187,7 +188,6 @@ impl Spte {
         requires level_from { 2 ≤ level }
         requires level_to { level ≤ 3 }
         requires i_in { i < 512 }
-        requires run_in { frame_in self + 2 ^ 18 ≤ 2 ^ 40 }
         ensures { result ≡ child_word level self i }
     {
         let frame = self.frame() + i as u64 * Spte::level_span(level - 1);
@@ -197,6 +197,19 @@ impl Spte {
             self.is_mmu_writable(),
         ];
         Spte::leaf(level - 1, frame, w, hw, mw)
+    }
+
+    /// What stands at place `i` (below 512) of a table that is linked in place of this entry of
+    /// the level: the child of a large leaf, and in place of any other entry nothing.
+    #[tactic(auto, using(crate::proofs::ProtectedEntries::leaf_level))]
+    pub fn below(self, level: u8, i: u32) -> Spte
+        requires { i < 512 }
+        ensures { result ≡ word_below level self i }
+    {
+        match self.kind(level) {
+            SpteKind::Leaf if level > 1 => self.child(level, i),
+            _ => Spte::absent(),
+        }
     }
 
     /// How many pages an entry of the level (1 to 4) covers: 1, 512, 262,144 and

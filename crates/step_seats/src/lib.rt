@@ -17,7 +17,8 @@ pub use machine_start::{start_hands, start_words};
 pub use mmu_steps::{
     Closing, Hand, SlotSet, WRITER, access_note, advance, allows, asks_flush, has_to_flush,
     has_writer, in_section, knows, needs_line, next_kind, next_step, next_watched, page_of,
-    page_owned, part_kind, part_rests, rests, saw_open, swept_to, word_looked, words_filled,
+    page_owned, part_kind, part_rests, rests, saw_open, swept_to, word_below, word_looked,
+    words_filled,
 };
 pub use owner::MachineOwner;
 pub use part::make_part;

@@ -82,7 +82,9 @@ try_gets Pages t v = by (is_won t.claim v)
     page : ℕ
     page = 64 * t.claim.at + tried_bit t.claim
 
-    by : (won : Bool) → page_got (if won then Some (record { page = page; filled = 0; absent = true; role = 0 }) else None) ≡ (if won then Some page else None)
+    by : (won : Bool)
+        → page_got (if won then Some (record { page = page; filled = 0; entry = t.walk.entry; level = t.walk.level; below = true; role = 0 }) else None)
+        ≡ (if won then Some page else None)
     by true = refl
     by false = refl
 try_gets Frames t v = by (is_won t.frames.claim v)

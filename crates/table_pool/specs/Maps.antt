@@ -18,9 +18,11 @@ abbrev pub with_claim : FreeMap → MapClaim → Topics → Topics
 with_claim Pages claim t = record t { claim = claim }
 with_claim Frames claim t = record t { frames = record t.frames { claim = claim } }
 
--- what is held with this page, of which nothing is filled, or with this frame, of which nothing is filled and nothing copied, after a claim that is over
+-- what is held with this page, which is to be filled for the entry that the walk has loaded and of which nothing is filled, or with this frame, of which
+-- nothing is filled and nothing copied, after a claim that is over
 abbrev pub with_got : FreeMap → ℕ → Topics → Topics
-with_got Pages page t = record t { owned = Some (record { page = page; filled = 0; absent = true; role = 0 }); claim = no_claim }
+with_got Pages page t =
+    record t { owned = Some (record { page = page; filled = 0; entry = t.walk.entry; level = t.walk.level; below = true; role = 0 }); claim = no_claim }
 with_got Frames frame t =
     record t { frames = record { claim = no_claim; owned = Some (record { frame = frame; filled = 0; copied = None }) } }
 

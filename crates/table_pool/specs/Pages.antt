@@ -7,6 +7,7 @@ use Rattle.core_views.specs.Held.{Held}
 use Rattle.spte_words.specs.declared.area.Area.{Area}
 use Rattle.spte_words.specs.declared.area.Area.TheVariants as area
 use Rattle.spte_words.specs.Areas.{pool_index}
+use Rattle.spte_words.specs.Entries.{word_below}
 use Rattle.mmu_core.specs.machine.Machine.{World}
 use Rattle.part_steps.specs.declared.part_step.PartStep.{PartStep}
 use Rattle.part_steps.specs.declared.part_step.PartStep.TheVariants as part
@@ -23,8 +24,9 @@ use Rattle.step_seats.specs.Seats.{Seat}
 abbrev pub fill_step : ℕ → ℕ → PartStep
 fill_step filled value = if filled == 512 then part.Role value else part.Fill value
 
--- The page, which is owned, has one more of its words filled, or its role after the last of them; it still counts as absent where all
--- words so far hold 0, and its role is remembered. Nothing else that the actor holds has changed.
+-- The page, which is owned, has one more of its words filled, or its role after the last of them. It is filled for the same entry still; it still counts as a
+-- table for this entry where all words so far hold what is to stand in one that is linked in its place, and its role is remembered. Nothing else that the actor
+-- holds has changed.
 pub record FillsNext (page value : ℕ) (was : OwnedPage) (before after : Topics) : Type 0 where
   pub owned : before.owned ≡ Some was
   pub page_is : was.page ≡ page
@@ -32,7 +34,9 @@ pub record FillsNext (page value : ℕ) (was : OwnedPage) (before after : Topics
     owned = Some (record {
       page = page;
       filled = was.filled + 1;
-      absent = was.absent && (was.filled == 512 || value == 0);
+      entry = was.entry;
+      level = was.level;
+      below = was.below && (was.filled == 512 || value == word_below was.level was.entry was.filled);
       role = if was.filled == 512 then value else was.role;
     });
   }

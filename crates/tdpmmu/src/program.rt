@@ -9,12 +9,11 @@ ghost use Rattle.tdpmmu.specs.Steps.{WritesLive, WritesOutput};
 
 use crate::command::Command;
 use core_views::{NoMemory, Trace};
-use live_engine::live;
+use live_engine::{live, replay};
 use run_status::{ROUNDS, Status, ended, refuse, usage};
 use std::alloc::{AllocError, Global};
 use std::sync::Wait;
 use std::thread::Threads;
-use table_replay::replay;
 use tdp_io::{Gate, Sink, Source, Stop, write_all};
 use trace_reader::{Read, need, read_trace};
 use weave_engine::{status_of, weave};

@@ -2,6 +2,7 @@
 
 use crate::cases::{Way, expect_all};
 use crate::expected::expect_text;
+use crate::rows::numbers;
 use core_views::{Actor, Answer, Item, LogMode, Refusal, Sizes, Until};
 use spte_words::{Area, WordMap};
 use std::alloc::Global;
@@ -45,25 +46,6 @@ fn area(name: &str) -> Option<Area> {
         "content" => Some(Area::Content),
         _ => None,
     }
-}
-
-// The number that the word is: in decimal digits, or in hex after `0x`.
-fn number(word: &str) -> Option<u64> {
-    match word.strip_prefix("0x") {
-        Some(digits) => u64::from_str_radix(digits, 16).ok(),
-        None => word.parse::<u64>().ok(),
-    }
-}
-
-// The numbers among the words.
-fn numbers(alloc: Global, words: &str) -> Result<Vec<u64>, Fail> {
-    let mut numbers = Vec::new(alloc);
-    for word in words.split(' ') {
-        if let Some(number) = number(word) {
-            numbers.push(number)?;
-        }
-    }
-    Ok(numbers)
 }
 
 // The turn of v0 with these numbers: its kind of step, which word of the area it is on, the role of the page

@@ -1,11 +1,12 @@
 //! What a step changes of what an actor holds of each part of the machine.
-ghost use Rattle.std.specs.Prelude.{◌≡◌, ◌≤◌, ◌<◌, ◌^◌, true, Some, is_some, if◌then◌else◌, ◌-◌, ◌==◌, ◌&&◌, nat_le, nat_lt};
+ghost use Rattle.std.specs.Prelude.{◌≡◌, ◌≤◌, ◌<◌, ◌^◌, true, Some, is_some, if◌then◌else◌, ◌-◌, ◌==◌, ◌&&◌, ◌||◌, nat_le, nat_lt};
 ghost use Rattle.core_views.specs.declared.topics.OwnedPage.{OwnedPage};
 ghost use Rattle.core_views.specs.Kinds.{kind_named};
 ghost use Rattle.core_views.specs.Sizes.{AreSizes};
 ghost use Rattle.core_views.specs.declared.place.SlotField.TheVariants.{Flags};
 ghost use Rattle.core_views.specs.declared.kind.StepKind.TheVariants.{Walk, Swap};
 ghost use Rattle.spte_words.specs.Areas.{number_of};
+ghost use Rattle.spte_words.specs.Entries.{word_below};
 ghost use Rattle.spte_words.specs.declared.area.Area.TheVariants as Area;
 ghost use Rattle.part_steps.specs.ControlBits.{is_content};
 ghost use Rattle.part_steps.specs.StayTopics.{begun, let_go, may_search, may_walk};
@@ -241,11 +242,12 @@ pub fn is_won(claim: &MapClaim, found: u64) -> bool
     (found >> tried_bit(claim)) % 2 == 1
 }
 
-// A claim has tried for a bit, and found this word.
-fn claim(claim: &mut MapClaim, found: u64) -> Option<OwnedPage>
+// A claim has tried for a bit, and found this word: its page is to be filled for the entry that
+// the walk has loaded.
+fn claim(walk: &TableWalk, claim: &mut MapClaim, found: u64) -> Option<OwnedPage>
     requires seen { 0 < claim.old.seen }
     requires at { claim.old.at < 2 ^ 32 }
-    ensures owned { result ≡ claimed claim.old found }
+    ensures owned { result ≡ claimed walk.now claim.old found }
     ensures claim { claim.new ≡ tried claim.old found }
 {
     if is_won(claim, found) {
@@ -254,7 +256,9 @@ fn claim(claim: &mut MapClaim, found: u64) -> Option<OwnedPage>
         Some(OwnedPage {
             page,
             filled: 0,
-            absent: true,
+            entry: walk.entry,
+            level: walk.level,
+            below: true,
             role: 0,
         })
     } else {
@@ -263,13 +267,25 @@ fn claim(claim: &mut MapClaim, found: u64) -> Option<OwnedPage>
     }
 }
 
+// Whether the word is what is to stand at the next place of the page, in a table that is linked
+// in place of the entry for which it was claimed.
+fn is_next_below(page: &OwnedPage, word: u64) -> bool
+    ensures { result ≡ (nat_le 512 page.now.filled || word == word_below page.now.level page.now.entry page.now.filled) }
+{
+    if page.filled >= ENTRIES {
+        return true;
+    }
+    let below = Spte::from_word(page.entry).below(page.level, page.filled as u32);
+    word == below.word()
+}
+
 // One more word of an owned page is filled.
 fn fill(owned: &mut Option<OwnedPage>, found: u64)
     requires { (o : OwnedPage) → owned.old ≡ Some o → o.filled < 513 }
     ensures { owned.new ≡ filled_more owned.old found }
 {
     if let Some(page) = owned {
-        page.absent = page.absent && (page.filled >= ENTRIES || found == 0);
+        page.below = page.below && is_next_below(page, found);
         if page.filled == ENTRIES {
             page.role = found;
         }
@@ -575,7 +591,7 @@ pub fn step_topics(sizes: &Sizes, kind: Kind, topics: &mut Topics, found: u64)
                 }
             }
         }
-        StepKind::Claim => topics.owned = claim(&mut topics.claim, found),
+        StepKind::Claim => topics.owned = claim(&topics.walk, &mut topics.claim, found),
         StepKind::Fill if is_content(sizes, kind.word) => store_word(&mut topics.frames.owned),
         StepKind::Fill => fill(&mut topics.owned, found),
         StepKind::Give => {

@@ -19,7 +19,7 @@ use Rattle.flat_laws.specs.Laws.{access_line}
 use Rattle.spte_words.specs.Areas.{content_index, place, pool_index}
 use Rattle.spte_words.specs.Entries.{absent_word, can_write, frame_in, frozen_word, is_leaf_at, kind_of, leaf_word, level_span, mapped_frame, table_word}
 use Rattle.spte_words.specs.Flags.{flags_live, flags_logged, flags_read_only, flags_word}
-use Rattle.spte_words.specs.HostWords.{host_allows_write, host_frame, host_present, host_word}
+use Rattle.spte_words.specs.HostWords.{host_allows_write, host_frame, host_level, host_present, host_word}
 use Rattle.part_steps.specs.TopicSteps.{topics_after}
 use Rattle.mmu_core.specs.forms.access.Cached.{flushed}
 use Rattle.weave_laws.specs.ExampleWeave.{ExampleIsTrace, ExampleWeaves, example_header, example_lines, example_trace}
@@ -118,7 +118,7 @@ example_events =
 
 example_computes : (whole_fits example_trace [] orders round_order ≡ true) × (whole_tale example_trace [] orders round_order ≡ example_events)
 unfolding flushed topics_after place kind_of level_span table_word frozen_word content_index pool_index absent_word frame_in mapped_frame leaf_word flags_live
-    flags_read_only flags_word host_allows_write host_frame host_present host_word can_write is_leaf_at flags_logged count_trailing_zeros
+    flags_read_only flags_word host_allows_write host_frame host_present host_word can_write is_leaf_at flags_logged count_trailing_zeros host_level
 example_computes = (refl, refl)
 
 example_prints : text example_events ≡ codes "4 v1 mmio\n3 v0 mmio\n5 v2 mmio\n"

@@ -6,11 +6,14 @@ pub mod AccessParts
 pub mod CachedKept
 pub mod FastKnown
 pub mod FaultFalls
+pub mod RunMapped
 pub mod FaultKnown
 pub mod FaultNeeds
 pub mod FaultSame
 pub mod FaultScans
+pub mod LeafPut
 pub mod LeafKnown
+pub mod LargeRows
 pub mod LookKnown
 pub mod SearchFalls
 pub mod UsedTranslations

@@ -102,7 +102,7 @@ still_uncopied (part.SetCount count) v a note x z S other none opened = by (v.ha
   where
     by : (b : Bool) → (v.hand a).topics.invalidations.opened ≡ b → is_uncopied (v.hand a).topics.frames.owned ≡ true
     by true is = none is
-    by false is = (S.needs.opens is).uncopied
+    by false is = (S.needs.0.opens is).uncopied
 still_uncopied _ v a note x z S other none opened = none opened
 
 one_frame : {o p : OwnedFrame} → Some o ≡ Some p → o ≡ p

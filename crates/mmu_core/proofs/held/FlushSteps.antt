@@ -175,10 +175,10 @@ module _ (z : Sizes) (v : View) (a note : ℕ) (c : Buffer Translation) (g : Hel
         by : (was : Bool) → h.topics.invalidations.opened ≡ was
             → IsFlushed h.topics.invalidations.own h.topics.flush.asked h.topics.flush.awaited k state stay kept
         by true is =
-            let none = counts_down h.topics.invalidations.opened h.topics.invalidations.count count is S.needs.is in
+            let none = counts_down h.topics.invalidations.opened h.topics.invalidations.count count is S.needs.0.is in
             let opened = empty_open (topics (part.SetCount count)) emptied in
             absurd (cc (none, opened))
-        by false is = unasked h.topics.flush (S.needs.opens is).unasked
+        by false is = unasked h.topics.flush (S.needs.0.opens is).unasked
 
     topics_flushed : (step : PartStep) (k : ℕ) → IsPart z v a step → Shows step k state stay → FlushFor h.topics k state stay kept
         → FlushFor (topics step) k state stay kept

@@ -1,5 +1,5 @@
 -- Each step of a part keeps what is said of what actors hold of tables and slot sets, and of their counters.
-use Rattle.std.proofs.Common.{◌≡◌, ◌-◌, ◌^◌, ◌<◌, ◌≤◌, ℕ, refl, sym, subst, ap, ◌∙◌, arith}
+use Rattle.std.proofs.Common.{◌≡◌, ◌^◌, ◌<◌, ◌≤◌, ℕ, refl, sym, subst, ap, ◌∙◌, arith}
 use Rattle.std.specs.Prelude.{Bool, true, false, ◌==◌, Option, Some, None, is_some}
 use Rattle.core_views.specs.declared.sizes.Sizes.{Sizes}
 use Rattle.core_views.specs.declared.topics.Hold.TheVariants.{Exclusive}
@@ -115,7 +115,7 @@ link_held : (z : Sizes) (v : View) (a note gfn : ℕ) → HeldBehind z v a note 
 link_held z v a note gfn S I =
     all_held z v a (part.Link gfn) _ S I
     (exchanged_held after t won (entry_index gfn t.walk.level) (link_written t) _ (walk_level z v a S.there I S.needs.0.saw.over.there)
-    (λ is. link_leads_down after (at t.walk.level t.walk.prefix) (entry_index gfn t.walk.level) page S.needs.1 small (added won is))
+    (λ is. link_leads_down after (at t.walk.level t.walk.prefix) (entry_index gfn t.walk.level) page S.needs.0.upper small (added won is))
     (held_stays (stands I.up I.spot) after t (stays_standing z v a (part.Link gfn) S I) (I.held a S.there)))
   where
     t : Topics
@@ -132,7 +132,7 @@ link_held z v a note gfn S I =
 
     small : page < 2 ^ 32
     small =
-        let O = table_owned (t.walk.level - 1) t S.needs.3 in omega (arith, ap page_owned O.is, owned_there I.uses a O.owned S.there O.is, S.is_sizes.pool.1)
+        let O = table_owned t S.needs.1 in omega (arith, ap page_owned O.is, owned_there I.uses a O.owned S.there O.is, S.is_sizes.pool.1)
 
     -- the page that was linked stands where it was linked
     added : (b : Bool) → b ≡ true → stands (upd_if b I.up page (Under (table_page t.walk) (entry_index gfn t.walk.level)))

@@ -41,7 +41,7 @@ module _ (z : Sizes) (v : View) (a note : ℕ) (IsOf : Invalidated → Type 0) w
   own_invalidating (part.SetStart first gfn) S other U = absurd (let closed = S.needs.0.opening.closed in let opened = U.opened in cc (closed, opened))
   own_invalidating (part.SetEnd last gfn) S other U = absurd (let closed = S.needs.0.opening.closed in let opened = U.opened in cc (closed, opened))
   own_invalidating (part.SetCount count) S other U =
-      absurd (let raised = S.needs.closes U.opened in let unraised = U.unraised in cc (raised, unraised))
+      absurd (let raised = S.needs.0.closes U.opened in let unraised = U.unraised in cc (raised, unraised))
   own_invalidating _ S other U = record { opened = U.opened; unraised = U.unraised; of_it = U.of_it }
 
   -- Whoever is invalidating it does so after a step that raises no number.

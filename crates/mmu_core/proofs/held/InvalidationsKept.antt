@@ -79,8 +79,8 @@ CountBehind z v a note step = IsPart z v a step → TopicsInvariant z v → Coun
 set_counts : (z : Sizes) (v : View) (a note count : ℕ) → CountBehind z v a note (part.SetCount count)
 set_counts z v a note count S I =
     let t : Topics = (v.hand a).topics in
-    let was : t.invalidations.count ≡ v.words area.Count 0 = (I.checks a S.there).counted (ap has_lock S.needs.alone) S.needs.knows in
-    counted_on (actors_of z) v.hand a _ t.invalidations.opened t.invalidations.count count S.there refl S.needs.is refl (was ∙ I.counts)
+    let was : t.invalidations.count ≡ v.words area.Count 0 = (I.checks a S.there).counted (ap has_lock S.needs.0.alone) S.needs.0.knows in
+    counted_on (actors_of z) v.hand a _ t.invalidations.opened t.invalidations.count count S.there refl S.needs.0.is refl (was ∙ I.counts)
 
 pub counts_behind : (z : Sizes) (v : View) (a note : ℕ) (step : PartStep) → CountBehind z v a note step
 counts_behind z v a note (part.SetCount count) = set_counts z v a note count
@@ -273,7 +273,7 @@ checks_behind z v a note (part.SetStart first gfn) = λ S I. stored_checked z v 
     (start_stored _ _ _ _ (v.hand a).topics (I.checks a S.there) first gfn)
 checks_behind z v a note (part.SetEnd last gfn) = λ S I. stored_checked z v a _ _ gfn _ _ S.there I S.needs.0.opening.alone
     (end_stored _ _ _ _ (v.hand a).topics (I.checks a S.there) last gfn)
-checks_behind z v a note (part.SetCount count) = λ S I. stored_checked z v a count _ _ _ _ S.there I S.needs.alone (unknown _ _ _ _ _ refl)
+checks_behind z v a note (part.SetCount count) = λ S I. stored_checked z v a count _ _ _ _ S.there I S.needs.0.alone (unknown _ _ _ _ _ refl)
 checks_behind z v a note (part.SetSeq seq) = λ S I. stored_checked z v a _ _ _ seq _ S.there I S.needs.0.alone (unknown _ _ _ _ _ refl)
 checks_behind z v a note _ = λ S I. all_checked z v a _ I (same_checked _ _ _ _ (v.hand a).topics (I.checks a S.there) _ refl refl)
 

@@ -92,7 +92,8 @@ leaves_lowest z v a step note S I =
     let w : View = part_stepped a step note v in
     subst (λ (r : ℕ → ℕ). AllOver (up_after step a (v.hand a).topics v I.up) (spot_after step (v.hand a).topics v I.spot) (w.words area.Pool) (r 0)
     LeafIsLowest) (sym (areas_stay v a step note area.Root refl))
-    (over_step z v a step note S I (v.words area.Root 0) LeafIsLowest (ap is_table I.tree.top) lowest_light (new_lowest z v a step S I) I.lowest.leaves)
+    (over_step z v a step note S I (v.words area.Root 0) LeafIsLowest (ap is_table I.tree.top)
+    lowest_light lowest_inherited (new_lowest z v a step S I) I.lowest.leaves)
 
 -- A leaf in a table that stands here is of the lowest level.
 pub lowest_leaf : (z : Sizes) (v : View) (I : TopicsInvariant z v) (k level prefix entry gfn : ℕ) → stands I.up I.spot k ≡ Some (at level prefix)

@@ -182,7 +182,7 @@ ranges_behind z v a note (part.SetCount count) S I =
     moved_ranges (actors_of z) (v.words area.RangeStart 0) (v.words area.RangeEnd 0) (v.words area.RangeStart 0) (v.words area.RangeEnd 0) v.hand a _ I.ranges
     (λ i g lt is R. R)
     (λ g lt more within. opens_within z v a I S.there
-    (S.needs.opens (opened_by z v a I S.there (v.hand a).topics.invalidations.opened count refl S.needs.is more)) g within)
+    (S.needs.0.opens (opened_by z v a I S.there (v.hand a).topics.invalidations.opened count refl S.needs.0.is more)) g within)
 ranges_behind z v a note _ S I =
     moved_ranges (actors_of z) (v.words area.RangeStart 0) (v.words area.RangeEnd 0) (v.words area.RangeStart 0) (v.words area.RangeEnd 0) v.hand a _ I.ranges
     (λ i g lt is R. R) (λ g lt is within. I.ranges a g lt is within)

@@ -192,7 +192,7 @@ own_passed z v a note (part.Change new_) S I = λ alone out aimed.
     I.passed a S.there alone out (aimed_looked t.owned t.host (Some (record { page = page_looked t.host; word = new_ })) S.needs.0.looked aimed)
 own_passed z v a note part.Claim S I = λ alone out aimed.
     let t : Topics = (v.hand a).topics in
-    I.passed a S.there alone out (aimed_before t.owned (claimed t.claim (v.words area.PoolMap t.claim.at)) t.host S.needs.0 aimed)
+    I.passed a S.there alone out (aimed_before t.owned (claimed t.walk t.claim (v.words area.PoolMap t.claim.at)) t.host S.needs.0 aimed)
 own_passed z v a note (part.Fill value) S I = λ alone out aimed.
     I.passed a S.there alone out (aimed_filled (v.hand a).topics.owned (v.hand a).topics.host (answer v a note (part.Fill value)) aimed)
 own_passed z v a note (part.Role value) S I = λ alone out aimed.

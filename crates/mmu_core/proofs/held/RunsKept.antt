@@ -1,19 +1,19 @@
 -- Each step of a part keeps it that the pages of a run are mapped alike, and that a page of which an invalidation is open is a small one.
 use Rattle.std.proofs.Common.{◌≡◌, ◌⊎◌, inl, inr, ◌+◌, ◌%◌, ◌<◌, ◌≤◌, ℕ, refl, sym, subst, ap, ◌∙◌, arith}
-use Rattle.std.specs.Prelude.{true, if◌then◌else◌, Option, Some, None, is_some}
+use Rattle.std.specs.Prelude.{true, if◌then◌else◌, Option, Some, None, is_some, nat_lt, false}
 use Rattle.std.proofs.lemmas.Bool.{cases_lt}
 use Rattle.core_views.specs.declared.sizes.Sizes.{Sizes}
 use Rattle.core_views.specs.declared.topics.HostLook.{HostLook}
 use Rattle.core_views.specs.declared.topics.Invalidated.{Invalidated}
 use Rattle.core_views.specs.declared.topics.OwnedPage.{OwnedPage}
 use Rattle.core_views.specs.Held.{Held}
-use Rattle.core_views.specs.Sizes.{actors_of}
+use Rattle.core_views.specs.Sizes.{actors_of, index_of}
 use Rattle.spte_words.specs.declared.area.Area.TheVariants as area
 use Rattle.spte_words.specs.Entries.{level_span}
 use Rattle.spte_words.specs.HostWords.{host_level}
 use Rattle.part_steps.specs.declared.part_step.PartStep.{PartStep}
 use Rattle.part_steps.specs.declared.part_step.PartStep.TheVariants as part
-use Rattle.part_steps.specs.InvalidationHoldings.{MayOpen}
+use Rattle.part_steps.specs.InvalidationHoldings.{MayOpen, OpensOnSmallPage}
 use Rattle.part_steps.specs.InvalidationRange.{IsOnRun, page_aimed, page_of_look, run_or_none}
 use Rattle.part_steps.specs.PartTasks.{page_looked, word_looked}
 use Rattle.mmu_core.specs.invariant.HostWordsPart.{IsStill}
@@ -29,6 +29,9 @@ use Rattle.mmu_core.proofs.machine.PartStepping.{IsPart}
 use Rattle.mmu_core.proofs.held.WalkSpans.{one_frame}
 use Rattle.mmu_core.proofs.words.HostStays.{levels_stay, still_brought, still_frame, still_level, still_there, still_writes}
 use Rattle.mmu_core.proofs.words.PartTopics.{behind_step, part_behind}
+use Rattle.mmu_core.proofs.held.OwnPages.{own_words}
+use Rattle.core_views.specs.HostChanges.{is_own}
+use Rattle.std.proofs.lemmas.Bool.Decides.{nat_tests}
 
 -- ---- runs
 
@@ -110,13 +113,25 @@ small_behind z v a note step S I i page =
     at_upd (λ i (k : Held). i < actors_of z → k.topics.invalidations.opened ≡ true → IsOnPage page k.topics.invalidations.own
     → host_level (v.words area.Host page) ≡ 1) v.hand a _ (λ there. own step S) (λ i ne there. I.small_changes i page there) i
   where
-    -- All pages are small, so the one is of which an invalidation is opened.
-    opens : MayOpen (v.hand a).topics → IsOnPage page (v.hand a).topics.invalidations.own → host_level (v.words area.Host page) ≡ 1
-    opens M on =
-        let L =
-        aimed_look (v.hand a).topics.owned (v.hand a).topics.host page
-        (aimed (page_aimed (v.hand a).topics) (subst (IsOnRun page) (ap (λ (n : Invalidated). n.pages) M.own_ ∙ ap run_or_none (sym M.opening.aimed)) on)) in
-        I.lowest.hosts page (subst (λ q. q < z.pages) L.2 ((I.looks a S.there).there L.0 L.1))
+    -- So is the one of which an invalidation is opened: its owner has seen it.
+    opens : (v.hand a).topics.invalidations.opened ≡ false → OpensOnSmallPage (v.hand a) → MayOpen (v.hand a).topics
+        → IsOnPage page (v.hand a).topics.invalidations.own → host_level (v.words area.Host page) ≡ 1
+    opens closed small M on =
+        let is_aimed : page_aimed (v.hand a).topics ≡ Some page =
+        aimed (page_aimed (v.hand a).topics) (subst (IsOnRun page) (ap (λ (n : Invalidated). n.pages) M.own_ ∙ ap run_or_none (sym M.opening.aimed)) on) in
+        let L = aimed_look (v.hand a).topics.owned (v.hand a).topics.host page is_aimed in
+        let seen = small closed page is_aimed in
+        let low : page < z.pages = subst (λ q. q < z.pages) L.2 ((I.looks a S.there).there L.0 L.1) in
+        let still : IsStill L.0.word (v.words area.Host page) =
+        subst (λ q. IsStill L.0.word (v.words area.Host q)) L.2
+        (own_words z v a I S.there S.sizes (subst (λ (y : Sizes). index_of y (v.hand a).state.actor ≡ a) S.sizes S.own_place) L.0 L.1
+        (subst (λ q. is_own (v.hand a).state.sizes (v.hand a).state.actor q ≡ true) (sym L.2) seen.0)) in
+        let level : host_level (v.words area.Host page) ≡ host_level L.0.word = still_level L.0.word (v.words area.Host page) still in
+        let word : word_looked (v.hand a).topics.host ≡ L.0.word = ap word_looked L.1 in
+        let most : host_level L.0.word ≤ 1 = (let test : nat_lt 1 (host_level L.0.word) ≡ false = sym (ap (λ w. nat_lt 1 (host_level w)) word) ∙ seen.1 in
+        grind (arith, nat_tests)) in
+        let least = (I.hosts page low).2 in
+        omega (arith, level, most, least)
       where
         aimed : (o : Option ℕ) → IsOnRun page (run_or_none o) → o ≡ Some page
         aimed None on = absurd on
@@ -127,7 +142,8 @@ small_behind z v a note step S I i page =
     own (part.SetStart first gfn) T is = absurd (let closed = T.needs.0.opening.closed in cc (is, closed))
     own (part.SetEnd last gfn) T is = absurd (let closed = T.needs.0.opening.closed in cc (is, closed))
     own (part.SetCount count) T more =
-        opens (T.needs.opens (opened_by z v a I T.there (v.hand a).topics.invalidations.opened count refl T.needs.is more))
+        let closed = opened_by z v a I T.there (v.hand a).topics.invalidations.opened count refl T.needs.0.is more in
+        opens closed T.needs.1 (T.needs.0.opens closed)
     own _ T is = I.small_changes a page T.there is
 
 pub small_changes_kept : (z : Sizes) (v : View) (a : ℕ) (step : PartStep) (note : ℕ) → IsPart z v a step → TopicsInvariant z v

@@ -168,7 +168,7 @@ scopes_behind z v a note step S I =
     own (part.SetStart first gfn) T is = absurd (let closed = T.needs.0.opening.closed in cc (is, closed))
     own (part.SetEnd last gfn) T is = absurd (let closed = T.needs.0.opening.closed in cc (is, closed))
     own (part.SetCount count) T more =
-        opens_scope z v a I T.there (T.needs.opens (opened_by z v a I T.there (v.hand a).topics.invalidations.opened count refl T.needs.is more))
+        opens_scope z v a I T.there (T.needs.0.opens (opened_by z v a I T.there (v.hand a).topics.invalidations.opened count refl T.needs.0.is more))
         T.replaces.apart
     own _ T is = I.scopes a T.there is
 

@@ -41,7 +41,7 @@ slots_behind z v a note step S I =
     own (part.SetStart first gfn) T is = absurd (let closed = T.needs.0.opening.closed in cc (is, closed))
     own (part.SetEnd last gfn) T is = absurd (let closed = T.needs.0.opening.closed in cc (is, closed))
     own (part.SetCount count) T more = λ of_none unretired.
-        T.replaces.of_slot (opened_by z v a I T.there (v.hand a).topics.invalidations.opened count refl T.needs.is more) of_none
+        T.replaces.of_slot (opened_by z v a I T.there (v.hand a).topics.invalidations.opened count refl T.needs.0.is more) of_none
     own part.Publish T is = λ of_none unretired. absurd (cc unretired)
     own part.GiveOld T is = absurd (let closed = T.needs.closed in cc (is, closed))
     own part.Give T is = λ of_none unretired.

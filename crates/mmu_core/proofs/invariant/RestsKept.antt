@@ -36,7 +36,7 @@ use Rattle.mmu_core.specs.forms.access.AccessSteps.{access_part, touch_of}
 use Rattle.mmu_core.specs.forms.access.AccessKnows.{AccessKnows, RestsOn}
 use Rattle.part_steps.specs.PartBounds.{PartRests}
 use Rattle.part_steps.specs.PartTasks.{own_index}
-use Rattle.part_steps.specs.PartHoldings.{FoundSlot, IsFresh, LookedUp, MayEnter, next_watched}
+use Rattle.part_steps.specs.PartHoldings.{FoundSlot, IsFresh, LookedUp, MayEnter, MayLink, next_watched}
 use Rattle.part_steps.specs.PartSteps.{GoesOnToWord, IsVcpu, PartNeeds}
 use Rattle.mmu_core.specs.lines.Forms.{AcceptsAt, RestsAt}
 use Rattle.mmu_core.specs.lines.Rests.{Rests}
@@ -167,6 +167,17 @@ enter_stays gfn t x = record {
   owes_none = ∥∥₁_elim x (hlevel props) (λ M. M.owes_none);
 }
 
+link_stays : (gfn : ℕ) (t : Topics) → ∥ MayLink gfn t ∥₁ → MayLink gfn t
+link_stays gfn t x = record {
+  shares = ∥∥₁_elim x (hlevel props) (λ M. M.shares);
+  section = ∥∥₁_elim x (hlevel props) (λ M. M.section);
+  saw = ∥∥₁_elim x (hlevel props) (λ M. M.saw);
+  owes_none = ∥∥₁_elim x (hlevel props) (λ M. M.owes_none);
+  upper = ∥∥₁_elim x (hlevel props) (λ M. M.upper);
+  takes = ∥∥₁_elim x (hlevel props) (λ M. M.takes);
+  enters = λ none. enter_stays gfn t (∥∥₁_map x (λ M. M.enters none));
+}
+
 word_stays : (word : ℕ) (claim : MapClaim) → ∥ GoesOnToWord word claim ∥₁ → GoesOnToWord word claim
 word_stays word claim x = either_stays (same_or word 0) (λ y. prop_stays (hlevel props) y) x
 
@@ -180,12 +191,7 @@ needs_stay (part.Map word) h x =
     (∥∥₁_elim x (hlevel props) (λ N. N.0), ∥∥₁_elim x (hlevel props) (λ N. N.1), word_stays word h.topics.claim (∥∥₁_map x (λ N. N.2)))
 needs_stay (part.FrameMap word) h x =
     (∥∥₁_elim x (hlevel props) (λ N. N.0), ∥∥₁_elim x (hlevel props) (λ N. N.1), word_stays word h.topics.frames.claim (∥∥₁_map x (λ N. N.2)))
-needs_stay (part.Link gfn) h x = (
-  enter_stays gfn h.topics (∥∥₁_map x (λ N. N.0)),
-  ∥∥₁_elim x (hlevel props) (λ N. N.1),
-  ∥∥₁_elim x (hlevel props) (λ N. N.2),
-  ∥∥₁_elim x (hlevel props) (λ N. N.3),
-)
+needs_stay (part.Link gfn) h x = (link_stays gfn h.topics (∥∥₁_map x (λ N. N.0)), ∥∥₁_elim x (hlevel props) (λ N. N.1))
 needs_stay (part.Leaf gfn write) h x = (
   enter_stays gfn h.topics (∥∥₁_map x (λ N. N.0)),
   ∥∥₁_elim x (hlevel props) (λ N. N.1),
@@ -201,7 +207,7 @@ needs_stay (part.SetStart first gfn) h x =
     (start_stays first gfn h.topics (∥∥₁_map x (λ N. N.0)), ∥∥₁_elim x (hlevel props) (λ N. N.1), ∥∥₁_elim x (hlevel props) (λ N. N.2))
 needs_stay (part.SetEnd last gfn) h x =
     (end_stays last gfn h.topics (∥∥₁_map x (λ N. N.0)), ∥∥₁_elim x (hlevel props) (λ N. N.1), ∥∥₁_elim x (hlevel props) (λ N. N.2))
-needs_stay (part.SetCount count) h x = count_stays count h.topics x
+needs_stay (part.SetCount count) h x = (count_stays count h.topics (∥∥₁_map x (λ N. N.0)), ∥∥₁_elim x (hlevel props) (λ N. N.1))
 needs_stay _ h x = prop_stays (hlevel (props, on_run_prop)) x
 
 on_stays : (s : Option PartStep) (gfn : ℕ) (write : Bool) (h : Held) → ∥ RestsOn s gfn write h ∥₁ → RestsOn s gfn write h

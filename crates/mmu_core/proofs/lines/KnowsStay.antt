@@ -165,10 +165,10 @@ way_stays word read seen z gfn walk x = record {
 }
   where
     Why : Type 0
-    Why = (read ≢ seen) ⊎ (kind_of walk.level seen ≡ entry_kind.Frozen) ⊎ ((kind_of walk.level seen ≡ entry_kind.Leaf) × (2 ≤ walk.level))
+    Why = (read ≢ seen) ⊎ (kind_of walk.level seen ≡ entry_kind.Frozen)
 
     why : (read ≡ seen) ⊎ (read ≢ seen) → ∥ Why ∥₁ → Why
-    why (inl same) y = either_stays (inr (λ differs. differs same)) (either_stays (is_frozen (kind_of walk.level seen)) (prop_stays (hlevel props))) y
+    why (inl same) y = inr (∥∥₁_elim y (hlevel props) (⊎_elim (λ differs. absurd (differs same)) (λ frozen. frozen)))
     why (inr differs) y = inl differs
 
 -- Whether the page behind the guest frame was looked up, and its word is another one now.
@@ -253,6 +253,7 @@ fault_stays (fault.Leaf writes) z gfn write t x = (
   ∥∥₁_elim x (hlevel props) (λ K. K.3),
   ∥∥₁_elim x (hlevel props) (λ K. K.4),
   ∥∥₁_elim x (hlevel props) (λ K. K.5),
+  ∥∥₁_elim x (hlevel props) (λ K. K.6),
 )
 fault_stays (fault.Give e) z gfn write t x = (
   ∥∥₁_elim x (hlevel props) (λ K. K.0),

@@ -2,6 +2,7 @@
 use Rattle.std.proofs.Common.{◌≡◌, ◌≢◌, ◌⊎◌, inl, inr, ◌≤◌, ℕ, refl, sym, subst, ap, ◌∙◌}
 use Rattle.std.specs.Prelude.{Bool, true, false, Option, Some, None, is_some, if◌then◌else◌}
 use Rattle.core_views.specs.declared.answer.Answer.{Answer}
+use Rattle.core_views.specs.declared.place.HostPlace.TheVariants as host
 use Rattle.core_views.specs.declared.place.Place.{Place}
 use Rattle.core_views.specs.declared.place.Place.TheVariants as place
 use Rattle.core_views.specs.declared.sizes.Sizes.{Sizes}
@@ -125,26 +126,36 @@ pub record MayEnd (p : Place) (c : Command) (h : Held) (v : ℕ) : Type 0 where
   pub goes : ends_with (outcome_at p c h v) ≡ 0
   pub waits : line_waits p c h v ≡ true
 
+-- A line that changes a host page may end with its look at it: it is refused where the page is part of a large one.
+abbrev pub IsLook : Place → Type 0
+IsLook p = (moves : Bool) × (p ≡ place.Host (host.Look moves))
+
 -- Or it makes another step: with it the line comes to no scan but its own, and is answered for want of a page or a frame only after one.
 pub record ClaimsNot (p : Place) (c : Command) (h : Held) (v : ℕ) : Type 0 where
   pub at : (map : FreeMap) → claim_at map p ≡ None
   pub step : (map : FreeMap) → maps_by map (part_at p c h) ≡ false
-  pub note : (note_by (part_at p c h) (note_at p c h) ≡ ends_with (outcome_at p c h v)) ⊎ MayEnd p c h v
+  pub note : (note_by (part_at p c h) (note_at p c h) ≡ ends_with (outcome_at p c h v)) ⊎ MayEnd p c h v ⊎ IsLook p
   pub keeps : KnowsPart p c h → (map : FreeMap) → HasScan (place_after (outcome_at p c h v)) map → KeepsAt map p (part_at p c h)
   pub starved : KnowsPart p c h → (map : FreeMap) → outcome_at p c h v ≡ Ends (answer_without map)
       → KeepsAt map p (part_at p c h) × ComesToEnd map (part_at p c h) h v
 
 -- With most such steps it comes to no scan, and isn't starved.
-pub to_no_scan : (p : Place) (c : Command) (h : Held) (v : ℕ) → ((map : FreeMap) → claim_at map p ≡ None)
-    → ((map : FreeMap) → maps_by map (part_at p c h) ≡ false) → note_by (part_at p c h) (note_at p c h) ≡ ends_with (outcome_at p c h v)
-    → HasNoScan (outcome_at p c h v) → Claims p c h v ⊎ ClaimsNot p c h v
-to_no_scan p c h v at step note N = inr (record {
+pub to_no_scan_noted : (p : Place) (c : Command) (h : Held) (v : ℕ) → ((map : FreeMap) → claim_at map p ≡ None)
+    → ((map : FreeMap) → maps_by map (part_at p c h) ≡ false)
+    → (note_by (part_at p c h) (note_at p c h) ≡ ends_with (outcome_at p c h v)) ⊎ MayEnd p c h v ⊎ IsLook p → HasNoScan (outcome_at p c h v)
+    → Claims p c h v ⊎ ClaimsNot p c h v
+to_no_scan_noted p c h v at step note N = inr (record {
   at = at;
   step = step;
-  note = inl note;
+  note = note;
   keeps = λ K map S. absurd (N.no_scan map S);
   starved = λ K map e. absurd (N.fed map e);
 })
+
+pub to_no_scan : (p : Place) (c : Command) (h : Held) (v : ℕ) → ((map : FreeMap) → claim_at map p ≡ None)
+    → ((map : FreeMap) → maps_by map (part_at p c h) ≡ false) → note_by (part_at p c h) (note_at p c h) ≡ ends_with (outcome_at p c h v)
+    → HasNoScan (outcome_at p c h v) → Claims p c h v ⊎ ClaimsNot p c h v
+to_no_scan p c h v at step note N = to_no_scan_noted p c h v at step (inl note) N
 
 -- ---- what follows
 

@@ -10,6 +10,7 @@ use Rattle.core_views.specs.declared.sizes.Sizes.{Sizes}
 use Rattle.core_views.specs.declared.topics.MapClaim.{MapClaim}
 use Rattle.core_views.specs.declared.topics.OwnedFrame.{OwnedFrame}
 use Rattle.core_views.specs.declared.topics.OwnedPage.{OwnedPage}
+use Rattle.core_views.specs.declared.topics.TableWalk.{TableWalk}
 use Rattle.core_views.specs.declared.topics.Topics.{Topics}
 use Rattle.core_views.specs.Held.{Held}
 use Rattle.core_views.specs.Sizes.{AreSizes}
@@ -31,15 +32,16 @@ use Rattle.mmu_core.proofs.lines.EitherPlace.{either_place}
 -- ---- what is held after a step
 
 -- the page, or the frame, that a claim tries, of which nothing is filled
-abbrev pub page_won : MapClaim → OwnedPage
-page_won claim = record { page = 64 * claim.at + tried_bit claim; filled = 0; absent = true; role = 0 }
+abbrev pub page_won : TableWalk → MapClaim → OwnedPage
+page_won walk claim =
+    record { page = 64 * claim.at + tried_bit claim; filled = 0; entry = walk.entry; level = walk.level; below = true; role = 0 }
 
 abbrev pub frame_won : MapClaim → OwnedFrame
 frame_won claim = record { frame = 64 * claim.at + tried_bit claim; filled = 0; copied = None }
 
 -- where the try is won; where it is lost, and v was seen; and where a load saw v, after which the claim has come to this word
 abbrev pub won_over : FreeMap → Topics → Topics
-won_over Pages t = record t { owned = Some (page_won t.claim); claim = record { at = 0; seen = 0 } }
+won_over Pages t = record t { owned = Some (page_won t.walk t.claim); claim = record { at = 0; seen = 0 } }
 won_over Frames t = record t { frames = record { claim = record { at = 0; seen = 0 }; owned = Some (frame_won t.frames.claim) } }
 
 abbrev pub lost_over : FreeMap → Topics → ℕ → Topics
@@ -90,7 +92,7 @@ module _ (z : Sizes) (begun : Bool) (t : Topics) (v : ℕ) where
 
   page_tried : (b : Bool) → tries_one begun t.claim ≡ true → is_won t.claim v ≡ b
       → ClaimMade z Pages begun t v part.Claim (if b then claims.Got else claims.Goes)
-      (record t { owned = if b then Some (page_won t.claim) else None; claim = record { at = if b then 0 else t.claim.at; seen = if b then 0 else v } })
+      (record t { owned = if b then Some (page_won t.walk t.claim) else None; claim = record { at = if b then 0 else t.claim.at; seen = if b then 0 else v } })
   page_tried true tries is = won Pages tries is
   page_tried false tries is = lost Pages tries is
 

@@ -4,7 +4,8 @@ use Rattle.std.specs.Prelude.{true, false, nat_lt}
 use Rattle.std.proofs.lemmas.Bool.Decides.{nat_tests}
 use Rattle.core_views.specs.declared.topics.Topics.{Topics}
 use Rattle.part_steps.specs.PageTopics.{filled_more}
-use Rattle.part_steps.specs.PartHoldings.{HasRoleToSet, HasToFill, OwnsSet}
+use Rattle.part_steps.specs.PartHoldings.{HasRoleToSet, HasToFill}
+use Rattle.part_steps.specs.SetHoldings.{OwnsSet}
 use Rattle.part_steps.specs.PartTasks.{role_filled, words_filled}
 use Rattle.part_steps.specs.SetWords.{set_role}
 use Rattle.mmu_core.proofs.pages.Owned.{more_filled, more_role, more_some, some_filled}

@@ -17,7 +17,7 @@ use Rattle.part_steps.specs.PartBounds.{PartRests}
 use Rattle.part_steps.specs.FrameTopics.{is_uncopied}
 use Rattle.part_steps.specs.declared.invalidations.Target.{Target}
 use Rattle.part_steps.specs.declared.invalidations.Target.TheVariants as aim
-use Rattle.part_steps.specs.InvalidationHoldings.{MayCount, has_counted, knows_count, IsOpening}
+use Rattle.part_steps.specs.InvalidationHoldings.{MayCount, has_counted, knows_count, IsOpening, OpensOnSmallPage}
 use Rattle.part_steps.specs.InvalidationRange.{HasSmallSlot, IsAimed, IsSmall, has_found_looked, has_searched, invalidated_by, is_within_range}
 use Rattle.part_steps.specs.InvalidationRange.{page_aimed, page_looked, page_of_look}
 use Rattle.part_steps.specs.PartSteps.{PartNeeds}
@@ -186,22 +186,22 @@ may_zap t W K = record {
   leaf = K.leaf;
 }
 
-pub begin_needs : (p : BeginPlace) (h : Held) (target : Target) → PartRests h → IsSmall target → IsAimed target h.topics
+pub begin_needs : (p : BeginPlace) (h : Held) (target : Target) → PartRests h → IsSmall target → IsAimed target h.topics → OpensOnSmallPage h
     → is_uncopied h.topics.frames.owned ≡ true → BeginKnows p h.state.sizes target h.topics → PartNeeds (begin_part p target h.topics) h
-begin_needs begins.Exclude h target R small aimed none K = K.0.loose
-begin_needs (begins.Find true) h target R small aimed none K =
+begin_needs begins.Exclude h target R small aimed pages none K = K.0.loose
+begin_needs (begins.Find true) h target R small aimed pages none K =
     let S = K.1 refl in (S.0, S.1, alone_not (is_alone h.topics.hold) (none_found target h.topics aimed S.2))
   where
     alone_not : {found : Bool} (alone : Bool) → found ≡ false → (alone && found) ≡ false
     alone_not true is = is
     alone_not false is = refl
-begin_needs begins.SetStart h target R small aimed none K =
+begin_needs begins.SetStart h target R small aimed pages none K =
     let low = (target_small target h.topics small R.frames).0 in (
       record { target = target; opening = opening target h.topics aimed K.0; counted = K.1; own_ = refl; is = refl },
       omega (arith, low),
       start_small target h.topics small R.counters.range.0 R.frames,
     )
-begin_needs begins.SetEnd h target R small aimed none K =
+begin_needs begins.SetEnd h target R small aimed pages none K =
     let low = (target_small target h.topics small R.frames).1 in (
       record {
         target = target;
@@ -215,10 +215,10 @@ begin_needs begins.SetEnd h target R small aimed none K =
       omega (arith, low),
       end_small target h.topics small R.counters.range.1 R.frames,
     )
-begin_needs begins.SetCount h target R small aimed none K = one_more target h.topics aimed small R.frames K.0 K.1 K.2 K.3 none
-begin_needs (begins.Walk true) h target R small aimed none K = may_sweep h.topics K.0.sweeping (K.1 refl)
-begin_needs begins.Zap h target R small aimed none K = may_zap h.topics K.0.sweeping K.1
-begin_needs begins.Ask h target R small aimed none K =
+begin_needs begins.SetCount h target R small aimed pages none K = (one_more target h.topics aimed small R.frames K.0 K.1 K.2 K.3 none, pages)
+begin_needs (begins.Walk true) h target R small aimed pages none K = may_sweep h.topics K.0.sweeping (K.1 refl)
+begin_needs begins.Zap h target R small aimed pages none K = may_zap h.topics K.0.sweeping K.1
+begin_needs begins.Ask h target R small aimed pages none K =
     record {
       low = K.2;
       next = refl;
@@ -227,8 +227,8 @@ begin_needs begins.Ask h target R small aimed none K =
       swept = λ opened. K.4;
       loose = λ closed. absurd (let opened = K.0.is in cc (closed, opened));
     }
-begin_needs begins.Await h target R small aimed none K = (let asked = K.2 in let lt = K.3 in omega (arith, asked, lt), refl, K.0.alone.outside)
-begin_needs begins.Release h target R small aimed none K =
+begin_needs begins.Await h target R small aimed pages none K = (let asked = K.2 in let lt = K.3 in omega (arith, asked, lt), refl, K.0.alone.outside)
+begin_needs begins.Release h target R small aimed pages none K =
     record {
       alone = K.0.alone.alone;
       ended = λ opened. K.1.unraised;
@@ -236,14 +236,14 @@ begin_needs begins.Release h target R small aimed none K =
       opened = λ has holds. K.0.is;
       done = λ has there. ap (λ (b : Bool). is_clear b h.topics.walk) K.0.is ∙ K.4;
     }
-begin_needs (begins.Find false) h target R small aimed none K = tt
-begin_needs (begins.Walk false) h target R small aimed none K = tt
-begin_needs _ h target R small aimed none K = tt
+begin_needs (begins.Find false) h target R small aimed pages none K = tt
+begin_needs (begins.Walk false) h target R small aimed pages none K = tt
+begin_needs _ h target R small aimed pages none K = tt
 
 pub end_needs : (p : EndPlace) (h : Held) → EndKnows p h.topics → PartNeeds (end_part p h.topics) h
 end_needs ends.Exclude h K = K.rests.loose
 end_needs ends.SetSeq h K = (record { alone = K.0.alone.alone; outside = K.0.alone.outside; opened = K.0.is; unraised = K.2; loaded = K.1 }, refl)
-end_needs ends.SetCount h K = one_less h.topics K.0 K.1 K.2
+end_needs ends.SetCount h K = (one_less h.topics K.0 K.1 K.2, λ closed. absurd (let opened = K.0.is in cc (opened, closed)))
 end_needs ends.Release h K =
     let closed = K.0.is in release_free h K.2 (λ opened. absurd (cc (opened, closed))) (λ opened. absurd (cc (opened, closed)))
 end_needs _ h K = tt

@@ -5,11 +5,13 @@ use Rattle.std.proofs.lemmas.Bool.Decides.{nat_tests}
 use Rattle.core_views.specs.declared.sizes.Sizes.{Sizes}
 use Rattle.core_views.specs.declared.topics.MapClaim.{MapClaim}
 use Rattle.core_views.specs.declared.topics.OwnedPage.{OwnedPage}
+use Rattle.core_views.specs.declared.topics.TableWalk.{TableWalk}
 use Rattle.core_views.specs.declared.topics.Topics.{Topics}
 use Rattle.core_views.specs.Held.{Held}
 use Rattle.core_views.specs.Sizes.{actors_of}
 use Rattle.spte_words.specs.declared.area.Area.TheVariants as area
 use Rattle.spte_words.specs.Areas.{pool_index}
+use Rattle.spte_words.specs.Entries.{word_below}
 use Rattle.part_steps.specs.declared.part_step.PartStep.{PartStep}
 use Rattle.part_steps.specs.declared.part_step.PartStep.TheVariants as part
 use Rattle.part_steps.specs.PartTasks.{own_index, page_owned, part_task, words_filled}
@@ -29,31 +31,34 @@ use Rattle.mmu_core.proofs.pages.PoolPages.{retired_not_owned, one_owner, owned_
 use Rattle.mmu_core.proofs.pages.Standing.{entry_now}
 
 -- Of a page that was claimed nothing is filled.
-claim_filled : (role pool : ℕ → ℕ) (claim : MapClaim) (v : ℕ) (o : OwnedPage) → claimed claim v ≡ Some o → IsFilled role pool o
-claim_filled role pool claim v o is = by (is_won claim v) is
+claim_filled : (role pool : ℕ → ℕ) (walk : TableWalk) (claim : MapClaim) (v : ℕ) (o : OwnedPage) → claimed walk claim v ≡ Some o → IsFilled role pool o
+claim_filled role pool walk claim v o is = by (is_won claim v) is
   where
     by : (won : Bool) → ◌≡◌ {A = Option OwnedPage} (if won
-        then Some (record { page = 64 * claim.at + tried_bit claim; filled = 0; absent = true; role = 0 }) else None) (Some o) → IsFilled role pool o
+        then Some (record { page = 64 * claim.at + tried_bit claim; filled = 0; entry = walk.entry; level = walk.level; below = true; role = 0 })
+        else None) (Some o) → IsFilled role pool o
     by true e =
         let none : 0 ≡ o.filled = ap words_filled e in
         record {
           most = omega (arith, none);
-          absent = λ absent j below low. absurd (omega (arith, below, none));
+          below = λ is_so j less low. absurd (omega (arith, less, none));
           role_is = λ whole. absurd (omega (arith, whole, none));
         }
     by false e = absurd (cc e)
 
--- A word that is said to be absent is 0, besides all before it.
-still_absent : (absent : Bool) (filled v : ℕ) → (absent && (nat_le 512 filled || v == 0)) ≡ true → (absent ≡ true) × (filled < 512 → v ≡ 0)
-still_absent true filled v is = (refl, λ lt. grind (arith, nat_tests, is, lt))
-still_absent false filled v is = absurd (cc is)
+-- A word that is said to be one below the entry is, besides all before it.
+still_below : (so : Bool) (filled v fit : ℕ) → (so && (nat_le 512 filled || v == fit)) ≡ true → (so ≡ true) × (filled < 512 → v ≡ fit)
+still_below true filled v fit is = (refl, λ lt. grind (arith, nat_tests, is, lt))
+still_below false filled v fit is = absurd (cc is)
 
 -- the page of which one more is filled
 abbrev more : OwnedPage → ℕ → OwnedPage
 more o value = record {
   page = o.page;
   filled = o.filled + 1;
-  absent = o.absent && (nat_le 512 o.filled || value == 0);
+  entry = o.entry;
+  level = o.level;
+  below = o.below && (nat_le 512 o.filled || value == word_below o.level o.entry o.filled);
   role = if o.filled == 512 then value else o.role;
 }
 
@@ -62,23 +67,26 @@ word_filled : (role pool : ℕ → ℕ) (o : OwnedPage) (value : ℕ) → o.fill
     → IsFilled role (upd pool (pool_index o.page o.filled) value) (more o value)
 word_filled role pool o value low F = record {
   most = omega (arith, low);
-  absent = λ absent j below in_page. each (still_absent o.absent o.filled value absent) j below in_page (same_or j o.filled);
+  below = λ is_so j less in_page. each (still_below o.below o.filled value (fit o.filled) is_so) j less in_page (same_or j o.filled);
   role_is = λ all. absurd (omega (arith, all, low));
 }
   where
-    each : (o.absent ≡ true) × (o.filled < 512 → value ≡ 0) → (j : ℕ) → j < o.filled + 1 → j < 512 → (j ≡ o.filled) ⊎ (j ≢ o.filled)
-        → upd pool (pool_index o.page o.filled) value (pool_index o.page j) ≡ 0
-    each absent j below in_page (inl e) =
+    fit : ℕ → ℕ
+    fit j = word_below o.level o.entry j
+
+    each : (o.below ≡ true) × (o.filled < 512 → value ≡ fit o.filled) → (j : ℕ) → j < o.filled + 1 → j < 512 → (j ≡ o.filled) ⊎ (j ≢ o.filled)
+        → upd pool (pool_index o.page o.filled) value (pool_index o.page j) ≡ fit j
+    each so j less in_page (inl e) =
         ap (λ i. upd pool (pool_index o.page o.filled) value (pool_index o.page i)) e ∙ upd_same pool (pool_index o.page o.filled) value
-        ∙ absent.1 low
-    each absent j below in_page (inr ne) =
-        fill_leaves o.page o.filled value pool o.page j low in_page (λ d e. ne (sym e)) ∙ F.absent absent.0 j (omega (arith, below, ne)) in_page
+        ∙ so.1 low ∙ sym (ap fit e)
+    each so j less in_page (inr ne) =
+        fill_leaves o.page o.filled value pool o.page j low in_page (λ d e. ne (sym e)) ∙ F.below so.0 j (omega (arith, less, ne)) in_page
 
 -- Its role is stored.
 role_stored : (role pool : ℕ → ℕ) (o : OwnedPage) (value : ℕ) → o.filled ≡ 512 → IsFilled role pool o → IsFilled (upd role o.page value) pool (more o value)
 role_stored role pool o value full F = record {
   most = omega (arith, full);
-  absent = λ absent j below in_page. F.absent (still_absent o.absent o.filled value absent).0 j (omega (arith, full, in_page)) in_page;
+  below = λ is_so j less in_page. F.below (still_below o.below o.filled value _ is_so).0 j (omega (arith, full, in_page)) in_page;
   role_is =
       λ all. let last : (o.filled == 512) ≡ true = grind (arith, nat_tests, full) in upd_same role o.page value
       ∙ sym (ap (λ (b : Bool). if b then value else o.role) last);
@@ -99,7 +107,7 @@ still_filled : (z : Sizes) (v : View) (a : ℕ) (step : PartStep) (note : ℕ) �
     → IsFilled ((part_stepped a step note v).words area.Role) ((part_stepped a step note v).words area.Pool) o
 still_filled z v a step note S o apart other F = record {
   most = F.most;
-  absent = λ absent j below low. page_stays z v a step note S o.page apart j low ∙ F.absent absent j below low;
+  below = λ is_so j less low. page_stays z v a step note S o.page apart j low ∙ F.below is_so j less low;
   role_is = λ whole. role_stays z v a step note S o.page other ∙ F.role_is whole;
 }
 
@@ -108,7 +116,7 @@ own_filled : (z : Sizes) (v : View) (a : ℕ) (step : PartStep) (note : ℕ) →
     → (o : OwnedPage) → (part_topics step (v.hand a).topics (answer_in (part_task step (own_index (v.hand a)) (v.hand a).topics note) v.words)).owned
     ≡ Some o → IsFilled ((part_stepped a step note v).words area.Role) ((part_stepped a step note v).words area.Pool) o
 own_filled z v a part.Claim note S I o is =
-    claim_filled (v.words area.Role) (v.words area.Pool) (v.hand a).topics.claim (v.words area.PoolMap (v.hand a).topics.claim.at) o is
+    claim_filled (v.words area.Role) (v.words area.Pool) (v.hand a).topics.walk (v.hand a).topics.claim (v.words area.PoolMap (v.hand a).topics.claim.at) o is
 own_filled z v a part.Give note S I o is = absurd (cc is)
 own_filled z v a part.GiveOld note S I o is = absurd (cc is)
 own_filled z v a part.Publish note S I o is = absurd (cc is)
@@ -126,11 +134,11 @@ own_filled z v a (part.Role value) note S I o is =
     (role_stored (v.words area.Role) (v.words area.Pool) p value (sym (ap words_filled mine) ∙ S.needs.0) (I.filled a p S.there mine))) o is
 own_filled z v a (part.Link gfn) note S I o is =
     let t : Topics = (v.hand a).topics in
-    let owns : OwnsWhole (t.walk.level - 1) t = table_owned (t.walk.level - 1) t S.needs.3 in
+    let owns : OwnsWhole (t.walk.level - 1) t = table_owned t S.needs.1 in
     let small : owns.owned.page < 2 ^ 32 = omega (arith, owned_there I.uses a owns.owned S.there owns.is, S.is_sizes.pool.1) in
     let owned : t.owned ≡ Some o =
     unlinked (entry_now gfn t v == t.walk.entry) owns.owned owns.is
-    (sym (link_stored t owns.owned (entry_now gfn t v == t.walk.entry) S.needs.1 owns.is small) ∙ is) in
+    (sym (link_stored t owns.owned (entry_now gfn t v == t.walk.entry) S.needs.0.upper owns.is small) ∙ is) in
     still_filled z v a (part.Link gfn) note S o (λ e. walks_unowned z v a S.there I S.needs.0.saw.over.there a o S.there owned (sym e)) tt
     (I.filled a o S.there owned)
   where

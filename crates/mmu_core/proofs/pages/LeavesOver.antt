@@ -1,6 +1,6 @@
 -- Each leaf to which links lead from the root is the one that slots and host give the guest frames that it is over: each step of a part keeps it.
 use Rattle.std.proofs.Common.{◌≡◌, ◌+◌, ◌*◌, ◌/◌, ◌<◌, ℕ, refl, sym, subst, ap, ◌∙◌, arith, ◌≤◌, ◌⊎◌, ◌≢◌, inl, inr}
-use Rattle.std.specs.Prelude.{◌-◌, Some, false, Bool, true, not, ◌&&◌}
+use Rattle.std.specs.Prelude.{Some, false, Bool, true, not, ◌&&◌}
 use Rattle.core_views.specs.declared.sizes.Sizes.{Sizes}
 use Rattle.spte_words.specs.declared.area.Area.TheVariants as area
 use Rattle.spte_words.specs.declared.spte_kind.SpteKind.TheVariants as entry_kind
@@ -20,6 +20,7 @@ use Rattle.mmu_core.specs.invariant.TreePart.{HangsBelow, Position, Use, at, is_
 use Rattle.mmu_core.specs.machine.View.{View, part_stepped}
 use Rattle.mmu_core.proofs.pages.AllOver.{IsLight, over_weaker}
 use Rattle.mmu_core.proofs.pages.OverSteps.{OfNewLeaf, over_step}
+use Rattle.mmu_core.proofs.pages.SplitLeaves.{leaves_inherited}
 use Rattle.mmu_core.proofs.slots.LiveStay.{StayLive, leaf_stays}
 use Rattle.mmu_core.proofs.slots.LiveStays.{live_in_stays, part_live_stays}
 use Rattle.mmu_core.proofs.machine.PartStepping.{IsFlushedOut, IsPart, changes_word, flushed_within, is_publish}
@@ -137,7 +138,7 @@ quiet_leaves z v a step note S I other never =
     (over_weaker up spot (w.words area.Pool) (v.words area.Root 0) (LeafIsFor before host set) (LeafIsFor (w.words area.Pool) host behind)
     (λ level gfn word so leaf. leaf_stays before set (w.words area.Pool) behind (stays_live z v a step note never S I) host level gfn word (so leaf))
     (over_step z v a step note S I (v.words area.Root 0) (LeafIsFor before host set) (ap is_table I.tree.top) (leaves_light before host set)
-    (new_leaf z v a step S I) I.leaves))))
+    (leaves_inherited before host set) (new_leaf z v a step S I) I.leaves))))
 
 -- Of a slot that goes with a publication there is no leaf: its guest frames were zapped.
 published_leaves : (z : Sizes) (v : View) (a note : ℕ) → IsPart z v a part.Publish → (I : TopicsInvariant z v)
@@ -146,7 +147,7 @@ published_leaves : (z : Sizes) (v : View) (a note : ℕ) → IsPart z v a part.P
     (LeafIsFor (v.words area.Pool) (v.words area.Host) (page_owned (v.hand a).topics.owned))
 published_leaves z v a note S I =
     over_step z v a part.Publish note S I (v.words area.Root 0) (LeafIsFor (v.words area.Pool) (v.words area.Host) page) (ap is_table I.tree.top)
-    (leaves_light (v.words area.Pool) (v.words area.Host) page) tt
+    (leaves_light (v.words area.Pool) (v.words area.Host) page) (leaves_inherited (v.words area.Pool) (v.words area.Host) page) tt
     (λ table entry gfn R O leaf.
     let is = I.leaves table entry gfn R O leaf in stays table entry gfn R O leaf is (S.replaces.stay is.id is.slot is.live))
   where

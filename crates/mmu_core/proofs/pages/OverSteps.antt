@@ -1,6 +1,6 @@
 -- What is said of all entries below a table is so after each step of a part, if the leaf is that it puts or leaves.
-use Rattle.std.proofs.Common.{◌≡◌, ◌≢◌, ◌-◌, ◌/◌, ◌<◌, ◌≤◌, ℕ, refl, sym, subst, ap, ◌∙◌, arith}
-use Rattle.std.specs.Prelude.{Bool, true, false, ◌==◌, if◌then◌else◌}
+use Rattle.std.proofs.Common.{◌≡◌, ◌⊎◌, inl, inr, ◌/◌, ◌<◌, ◌≤◌, ℕ, refl, sym, subst, ap, ◌∙◌, arith}
+use Rattle.std.specs.Prelude.{Bool, true, false, ◌==◌, if◌then◌else◌, Some}
 use Rattle.core_views.specs.declared.sizes.Sizes.{Sizes}
 use Rattle.core_views.specs.declared.topics.Topics.{Topics}
 use Rattle.core_views.specs.Sizes.{actors_of}
@@ -9,25 +9,28 @@ use Rattle.spte_words.specs.Areas.{pool_index}
 use Rattle.spte_words.specs.Entries.{level_span}
 use Rattle.part_steps.specs.declared.part_step.PartStep.{PartStep}
 use Rattle.part_steps.specs.declared.part_step.PartStep.TheVariants as part
-use Rattle.part_steps.specs.PartTasks.{entry_index, is_absent, leaf_written, link_written, page_owned, table_page, leaf_fixed}
+use Rattle.part_steps.specs.PartTasks.{entry_index, leaf_written, link_written, page_owned, table_page, leaf_fixed}
 use Rattle.part_steps.specs.PartHoldings.{IsOver}
 use Rattle.mmu_core.specs.invariant.AllOver.{AllOver, IsEntryOver}
-use Rattle.mmu_core.specs.invariant.PoolPart.{IsFilled}
 use Rattle.mmu_core.specs.invariant.TopicsInvariant.{TopicsInvariant}
-use Rattle.mmu_core.specs.invariant.TreePart.{Position, HangsBelow, at, is_table}
+use Rattle.mmu_core.specs.invariant.TreePart.{Position, HangsBelow, at, is_table, stands}
 use Rattle.mmu_core.specs.invariant.TreePart.Use.{Under}
 use Rattle.mmu_core.specs.machine.View.{View, part_stepped, upd}
-use Rattle.mmu_core.proofs.pages.Owned.{OwnsWhole, table_owned}
 use Rattle.mmu_core.proofs.machine.PartStepping.{IsPart}
 use Rattle.mmu_core.proofs.words.PartWords.{IsElsewhere, page_stays}
-use Rattle.mmu_core.proofs.pages.PoolPages.{owned_there, owned_use}
-use Rattle.mmu_core.proofs.pages.Standing.{entry_now, position_below, spot_after, spot_of, up_after}
+use Rattle.mmu_core.proofs.pages.PoolPages.{owned_use}
+use Rattle.mmu_core.proofs.pages.Standing.{entry_now, position_below, spot_after, spot_of, up_after, upd_if}
 use Rattle.mmu_core.proofs.pages.UsesStay.{is_link, same_tables}
 use Rattle.mmu_core.proofs.machine.ColumnsTell.{tells}
-use Rattle.spte_words.specs.declared.spte_kind.SpteKind.TheVariants.{Leaf}
-use Rattle.spte_words.specs.Entries.{kind_of, without_write}
+use Rattle.spte_words.specs.declared.spte_kind.SpteKind.TheVariants as entry_kind
+use Rattle.spte_words.specs.Entries.{child_word, kind_of, without_write}
+use Rattle.spte_words.proofs.ChildEntries.{below_absent, below_leaf}
+use Rattle.spte_words.proofs.Indices.{same_pool_word}
+use Rattle.mmu_core.proofs.machine.Columns.{upd_other}
+use Rattle.mmu_core.proofs.pages.LinkMade.{LinksPage, links_page, takes_one}
+use Rattle.mmu_core.proofs.pages.SplitLeaves.{over_split}
 use Rattle.mmu_core.proofs.pages.ProtectedLeaf.{found_leaf, pool_protected}
-use Rattle.mmu_core.proofs.pages.AllOver.{IsLight, absent_is, same_below, over_grown, over_words, over_stored, over_exchanged}
+use Rattle.mmu_core.proofs.pages.AllOver.{IsInherited, IsLight, absent_is, same_below, over_grown, over_words, over_stored, over_exchanged}
 
 -- What the leaf owes that a step leaves, or puts by an exchange that is won: it is so of each guest frame of its span; where it stands in place of one, as this
 -- one was.
@@ -39,7 +42,7 @@ OfNewLeaf (part.Fix gfn) t v IsSo =
     entry_now gfn t v ≡ t.walk.entry → (other : ℕ) → other / level_span t.walk.level ≡ gfn / level_span t.walk.level → IsSo t.walk.level other t.walk.entry
     → IsSo t.walk.level other (leaf_fixed t)
 OfNewLeaf (part.Protect gfn) t v IsSo =
-    (found other : ℕ) → kind_of t.walk.level found ≡ Leaf → IsSo t.walk.level other found → IsSo t.walk.level other (without_write found)
+    (found other : ℕ) → kind_of t.walk.level found ≡ entry_kind.Leaf → IsSo t.walk.level other found → IsSo t.walk.level other (without_write found)
 OfNewLeaf _ t v IsSo = Unit {0}
 
 module _ (z : Sizes) (v : View) (a : ℕ) (I : TopicsInvariant z v) (m : ℕ) (IsSo : ℕ → ℕ → ℕ → Type 0) (table : is_table (I.up m) ≡ true)
@@ -107,55 +110,74 @@ module _ (z : Sizes) (v : View) (a : ℕ) (I : TopicsInvariant z v) (m : ℕ) (I
       here : I.spot (table_page t.walk) ≡ at t.walk.level t.walk.prefix
       here = at_walk S.there S.needs.saw.over.there
 
-  link_over : (gfn note : ℕ) → IsPart z v a (part.Link gfn) → AllOver (up_after (part.Link gfn) a t v I.up) (spot_after (part.Link gfn) t v I.spot)
-      ((part_stepped a (part.Link gfn) note v).words area.Pool) m IsSo
-  link_over gfn note S =
-      over_grown I.tree ((part_stepped a (part.Link gfn) note v).words area.Pool) m IsSo table light won (page_owned t.owned)
-      (Under (table_page t.walk) (entry_index gfn t.walk.level)) (position_below gfn t) no_table_yet
-      (λ is j low. page_stays z v a (part.Link gfn) note S (page_owned t.owned) apart j low ∙ ap (λ k. v.words area.Pool (pool_index k j)) page
-      ∙ filled.absent (ap is_absent (sym owns.is) ∙ S.needs.3.absent) j (omega (arith, low, owns.whole)) low ∙ absent_is)
-      (over_exchanged I.up I.spot (v.words area.Pool) m IsSo table A (table_page t.walk) (entry_index gfn t.walk.level) (link_written t) won (omega arith)
-      (λ is other R O. light.link (I.spot (table_page t.walk)).level other (page_owned t.owned)
-      (let upper = S.needs.1 in let level = ap (λ (p : Position). p.level) here in omega (arith, upper, level))
-      (omega (arith, page, owned_there I.uses a owns.owned S.there owns.is, S.is_sizes.pool.1))))
-    where
-      won : Bool
-      won = entry_now gfn t v == t.walk.entry
+  -- A table is linked: in an absent entry it has none, and in a leaf's place its entries are the leaf's children.
+  module _ (heirs : IsInherited IsSo) (gfn note : ℕ) (S : IsPart z v a (part.Link gfn)) where
+    abbrev won : Bool
+    won = entry_now gfn t v == t.walk.entry
 
-      owns : OwnsWhole (t.walk.level - 1) t
-      owns = table_owned (t.walk.level - 1) t S.needs.3
+    abbrev index : ℕ
+    index = entry_index gfn t.walk.level
 
-      page : page_owned t.owned ≡ owns.owned.page
-      page = ap page_owned owns.is
+    abbrev pool : ℕ → ℕ
+    pool = v.words area.Pool
 
-      here : I.spot (table_page t.walk) ≡ at t.walk.level t.walk.prefix
-      here = at_walk S.there S.needs.0.saw.over.there
+    page : LinksPage z v a I
+    page = links_page z v a gfn I S
 
-      filled : IsFilled (v.words area.Role) (v.words area.Pool) owns.owned
-      filled = I.filled a owns.owned S.there owns.is
+    at_table : stands I.up I.spot (table_page t.walk) ≡ Some (at t.walk.level t.walk.prefix)
+    at_table = (I.held a S.there).table S.needs.0.saw.over.there
 
-      no_table_yet : is_table (I.up (page_owned t.owned)) ≡ false
-      no_table_yet = ap (λ k. is_table (I.up k)) page ∙ ap is_table (owned_use I.uses a owns.owned S.there owns.is)
+    here : I.spot (table_page t.walk) ≡ at t.walk.level t.walk.prefix
+    here = at_walk S.there S.needs.0.saw.over.there
 
-      apart : table_page t.walk ≢ page_owned t.owned
-      apart e =
-          let yes = (spot_of I.up I.spot (table_page t.walk) _ ((I.held a S.there).table S.needs.0.saw.over.there)).0 in
-          let no = ap (λ k. is_table (I.up k)) e ∙ no_table_yet in
-          cc (yes, no)
+    abbrev Linked : Bool → Type 0
+    Linked b =
+        AllOver (upd_if b I.up (page_owned t.owned) (Under (table_page t.walk) index)) (upd_if b I.spot (page_owned t.owned) (position_below gfn t))
+        (upd pool (pool_index (table_page t.walk) index) (if b then link_written t else entry_now gfn t v)) m IsSo
+
+    -- in an absent entry's place
+    grown : kind_of t.walk.level t.walk.entry ≡ entry_kind.Absent → (b : Bool) → won ≡ b → Linked b
+    grown none b is =
+        over_grown I.tree (upd pool (pool_index (table_page t.walk) index) (if b then link_written t else entry_now gfn t v)) m IsSo table light b
+        (page_owned t.owned) (Under (table_page t.walk) index) (position_below gfn t) page.no_table
+        (λ is_so j low. upd_other pool (pool_index (table_page t.walk) index) (pool_index (page_owned t.owned) j) _
+        (λ e. page.apart (sym (same_pool_word (page_owned t.owned) (table_page t.walk) j index low (omega arith) e).0))
+        ∙ page.words j low ∙ below_absent t.walk.level t.walk.entry j none)
+        (over_exchanged I.up I.spot pool m IsSo table A (table_page t.walk) index (link_written t) b (omega arith)
+        (λ is_so other R O. light.link (I.spot (table_page t.walk)).level other (page_owned t.owned)
+        (let upper = S.needs.0.upper in let level = ap (λ (p : Position). p.level) here in omega (arith, upper, level)) page.small))
+
+    -- in a leaf's
+    split : kind_of t.walk.level t.walk.entry ≡ entry_kind.Leaf → (b : Bool) → won ≡ b → Linked b
+    split leaf false is = over_exchanged I.up I.spot pool m IsSo table A (table_page t.walk) index (link_written t) false (omega arith) (λ no. absurd (cc no))
+    split leaf true is =
+        let found : entry_now gfn t v ≡ t.walk.entry = tells (entry_now gfn t v) t.walk.entry is in
+        over_split I.tree m IsSo table light heirs (table_page t.walk) t.walk.level t.walk.prefix index (page_owned t.owned) at_table (omega arith)
+        S.needs.0.upper page.small (ap (kind_of t.walk.level) found ∙ leaf) page.no_table
+        (λ j low. page.words j low ∙ below_leaf t.walk.level t.walk.entry j S.needs.0.upper leaf
+        ∙ ap (λ w. child_word t.walk.level w j) (sym found)) A
+
+    link_over : Linked won
+    link_over = by (takes_one _ S.needs.0.takes)
+      where
+        by : (kind_of t.walk.level t.walk.entry ≡ entry_kind.Absent) ⊎ (kind_of t.walk.level t.walk.entry ≡ entry_kind.Leaf) → Linked won
+        by (inl none) = grown none won refl
+        by (inr leaf) = split leaf won refl
 
 -- What is said of all entries below a table, of a claim that is light, is so after each step, if the new leaf is.
 pub over_step : (z : Sizes) (v : View) (a : ℕ) (step : PartStep) (note : ℕ) → IsPart z v a step
-    → (I : TopicsInvariant z v) (m : ℕ) (IsSo : ℕ → ℕ → ℕ → Type 0) → is_table (I.up m) ≡ true → IsLight IsSo → OfNewLeaf step (v.hand a).topics v IsSo
-    → AllOver I.up I.spot (v.words area.Pool) m IsSo → AllOver (up_after step a (v.hand a).topics v I.up) (spot_after step (v.hand a).topics v I.spot)
+    → (I : TopicsInvariant z v) (m : ℕ) (IsSo : ℕ → ℕ → ℕ → Type 0) → is_table (I.up m) ≡ true → IsLight IsSo → IsInherited IsSo
+    → OfNewLeaf step (v.hand a).topics v IsSo → AllOver I.up I.spot (v.words area.Pool) m IsSo
+    → AllOver (up_after step a (v.hand a).topics v I.up) (spot_after step (v.hand a).topics v I.spot)
     ((part_stepped a step note v).words area.Pool) m IsSo
-over_step z v a (part.Link gfn) note S I m IsSo table light new_ A = link_over z v a I m IsSo table light A gfn note S
-over_step z v a (part.Leaf gfn write) note S I m IsSo table light new_ A =
+over_step z v a (part.Link gfn) note S I m IsSo table light heirs new_ A = link_over z v a I m IsSo table light A heirs gfn note S
+over_step z v a (part.Leaf gfn write) note S I m IsSo table light heirs new_ A =
     put_over z v a I m IsSo table light A gfn (leaf_written gfn write (v.hand a).topics) S.there S.needs.0.saw.over (λ is other over was. new_ is other over)
-over_step z v a (part.Fix gfn) note S I m IsSo table light new_ A =
+over_step z v a (part.Fix gfn) note S I m IsSo table light heirs new_ A =
     put_over z v a I m IsSo table light A gfn (leaf_fixed (v.hand a).topics) S.there S.needs.saw.over new_
-over_step z v a (part.Fill value) note S I m IsSo table light new_ A =
+over_step z v a (part.Fill value) note S I m IsSo table light heirs new_ A =
     still_over z v a I m IsSo table light A (part.Fill value) note S refl
     (λ k is o owns e. let no = ap (λ l. is_table (I.up l)) (sym e) ∙ ap is_table (owned_use I.uses a o S.there owns) in absurd (cc (no, is)))
-over_step z v a (part.Zap gfn) note S I m IsSo table light new_ A = zap_over z v a I m IsSo table light A gfn note
-over_step z v a (part.Protect gfn) note S I m IsSo table light new_ A = protect_over z v a I m IsSo table light A gfn note S new_
-over_step z v a step note S I m IsSo table light new_ A = still_over z v a I m IsSo table light A step note S refl (λ k is. tt)
+over_step z v a (part.Zap gfn) note S I m IsSo table light heirs new_ A = zap_over z v a I m IsSo table light A gfn note
+over_step z v a (part.Protect gfn) note S I m IsSo table light heirs new_ A = protect_over z v a I m IsSo table light A gfn note S new_
+over_step z v a step note S I m IsSo table light heirs new_ A = still_over z v a I m IsSo table light A step note S refl (λ k is. tt)

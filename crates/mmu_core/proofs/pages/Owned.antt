@@ -1,11 +1,14 @@
 -- The page that an actor owns, by what is read of it.
-use Rattle.std.proofs.Common.{◌≡◌, ◌⊎◌, inl, inr, ◌+◌, ◌<◌, ℕ, refl, ap, arith}
+use Rattle.std.proofs.Common.{◌≡◌, ◌⊎◌, inl, inr, ◌+◌, ◌-◌, ◌<◌, ℕ, refl, sym, ap, ◌∙◌, arith}
 use Rattle.std.specs.Prelude.{Bool, true, false, ◌==◌, ◌&&◌, ◌||◌, nat_le, if◌then◌else◌, Option, Some, None, is_some}
 use Rattle.std.proofs.lemmas.Bool.Decides.{nat_tests}
 use Rattle.core_views.specs.declared.topics.OwnedPage.{OwnedPage}
+use Rattle.core_views.specs.declared.topics.TableWalk.{TableWalk}
 use Rattle.core_views.specs.declared.topics.Topics.{Topics}
-use Rattle.part_steps.specs.PartTasks.{is_absent, role_filled, words_filled}
-use Rattle.part_steps.specs.PartHoldings.{OwnsSet, OwnsTable}
+use Rattle.part_steps.specs.PartTasks.{is_below, role_filled, words_filled}
+use Rattle.part_steps.specs.PartHoldings.{OwnsTable}
+use Rattle.part_steps.specs.SetHoldings.{OwnsSet}
+use Rattle.spte_words.specs.Entries.{word_below}
 use Rattle.part_steps.specs.SetWords.{set_role}
 use Rattle.part_steps.specs.PageTopics.{filled_more}
 use Rattle.mmu_core.proofs.machine.ColumnsTell.{some_is}
@@ -33,11 +36,22 @@ whole_owned stored t whole role = by t.owned refl whole role
     by None is whole role = absurd (omega (arith, whole))
     by (Some o) is whole role = record { owned = o; is = is; whole = whole; role = role }
 
-pub table_owned : (level : ℕ) (t : Topics) → OwnsTable level t → OwnsWhole level t
-table_owned level t O = whole_owned level t O.whole O.role
+pub table_owned : (t : Topics) → OwnsTable t → OwnsWhole (t.walk.level - 1) t
+table_owned t O = whole_owned (t.walk.level - 1) t O.whole O.role
 
 pub set_owned : (t : Topics) → OwnsSet t → OwnsWhole set_role t
 set_owned t O = whole_owned set_role t O.whole O.role
+
+-- Its words are those below the entry that the walk has loaded.
+pub is_below_of : (walk : TableWalk) (o : OwnedPage) → is_below walk (Some o) ≡ true → (o.below ≡ true) × (o.level ≡ walk.level) × (o.entry ≡ walk.entry)
+is_below_of walk o is = by o.below (o.level == walk.level) (o.entry == walk.entry) refl refl refl is
+  where
+    by : (b same_level same_entry : Bool) → o.below ≡ b → (o.level == walk.level) ≡ same_level → (o.entry == walk.entry) ≡ same_entry
+        → (b && (same_level && same_entry)) ≡ true → (o.below ≡ true) × (o.level ≡ walk.level) × (o.entry ≡ walk.entry)
+    by true true true below level entry all = (below, grind (arith, nat_tests), grind (arith, nat_tests))
+    by true true false below level entry all = absurd (cc all)
+    by true false same_entry below level entry all = absurd (cc all)
+    by false same_level same_entry below level entry all = absurd (cc all)
 
 -- ---- One more word of the page is filled, or its role is stored.
 
@@ -49,15 +63,32 @@ pub more_filled : (x : Option OwnedPage) (v : ℕ) → is_some x ≡ true → wo
 more_filled None v some = absurd (cc some)
 more_filled (Some o) v some = refl
 
--- Its words are absent still, if the one that is filled is.
-pub more_absent : (x : Option OwnedPage) (v : ℕ) → is_absent x ≡ true → (v ≡ 0) ⊎ (words_filled x ≡ 512) → is_absent (filled_more x v) ≡ true
-more_absent None v absent so = absurd (cc absent)
-more_absent (Some o) v absent so = by o.absent absent so
+-- Its words are those below the entry still, if the one that is filled is.
+pub more_below : (walk : TableWalk) (x : Option OwnedPage) (v : ℕ) → is_below walk x ≡ true
+    → (v ≡ word_below walk.level walk.entry (words_filled x)) ⊎ (words_filled x ≡ 512) → is_below walk (filled_more x v) ≡ true
+more_below walk None v is so = absurd (cc is)
+more_below walk (Some o) v is so = by o.below (o.level == walk.level) (o.entry == walk.entry) refl refl is so
   where
-    by : (b : Bool) → b ≡ true → (v ≡ 0) ⊎ (o.filled ≡ 512) → (b && (nat_le 512 o.filled || v == 0)) ≡ true
-    by true is (inl zero_) = grind (arith, nat_tests, zero_)
-    by true is (inr full) = grind (arith, nat_tests, full)
-    by false is so = absurd (cc is)
+    either : (a b : Bool) → b ≡ true → ((a || b) && true) ≡ true
+    either true b is = refl
+    either false b is = ap (λ (c : Bool). c && true) is
+
+    by : (b same_level same_entry : Bool) → (o.level == walk.level) ≡ same_level → (o.entry == walk.entry) ≡ same_entry
+        → (b && (same_level && same_entry)) ≡ true → (v ≡ word_below walk.level walk.entry o.filled) ⊎ (o.filled ≡ 512)
+        → ((b && (nat_le 512 o.filled || v == word_below o.level o.entry o.filled)) && (same_level && same_entry)) ≡ true
+    by true true true level entry is (inr full) =
+        let whole : nat_le 512 o.filled ≡ true = grind (arith, nat_tests, full) in
+        ap (λ (b : Bool). (b || v == word_below o.level o.entry o.filled) && true) whole
+    by true true true level entry is (inl word) =
+        let at_level : o.level ≡ walk.level = grind (arith, nat_tests) in
+        let at_entry : o.entry ≡ walk.entry = grind (arith, nat_tests) in
+        let fits : v ≡ word_below o.level o.entry o.filled = word ∙ sym (ap (λ e. word_below o.level e o.filled) at_entry
+        ∙ ap (λ l. word_below l walk.entry o.filled) at_level) in
+        let same : (v == word_below o.level o.entry o.filled) ≡ true = grind (arith, nat_tests, fits) in
+        either (nat_le 512 o.filled) (v == word_below o.level o.entry o.filled) same
+    by true true false level entry is so = absurd (cc is)
+    by true false same_entry level entry is so = absurd (cc is)
+    by false same_level same_entry level entry is so = absurd (cc is)
 
 pub more_role : (x : Option OwnedPage) (v : ℕ) → words_filled x ≡ 512 → role_filled (filled_more x v) ≡ v
 more_role None v full = absurd (omega (arith, full))

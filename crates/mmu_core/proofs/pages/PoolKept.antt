@@ -64,7 +64,7 @@ uses_after z v a part.Claim note S I =
     let t : Topics = (v.hand a).topics in
     let low : tried_bit t.claim < 64 = (bit_at-trailing_zeros w64 t.claim.seen S.needs.1 (I.counters a S.there).seen).0 in
     own_alone z v a part.Claim note _ refl
-    (claim_kept I.uses a S.there t.claim.at (tried_bit t.claim) (is_won t.claim (v.words area.PoolMap t.claim.at)) low refl S.needs.0)
+    (claim_kept I.uses a S.there t.walk t.claim.at (tried_bit t.claim) (is_won t.claim (v.words area.PoolMap t.claim.at)) low refl S.needs.0)
 uses_after z v a part.Give note S I =
     let t : Topics = (v.hand a).topics in
     let o = owned_some t S.needs.0 in
@@ -93,14 +93,14 @@ uses_after z v a part.Publish note S I =
     (sym (ap page_owned owns.is)) (publish_kept I.uses a S.there owns.owned owns.is S.needs.none_retired))
 uses_after z v a (part.Link gfn) note S I =
     let t : Topics = (v.hand a).topics in
-    let owns : OwnsWhole (t.walk.level - 1) t = table_owned (t.walk.level - 1) t S.needs.3 in
+    let owns : OwnsWhole (t.walk.level - 1) t = table_owned t S.needs.1 in
     let small : owns.owned.page < 2 ^ 32 = omega (arith, owned_there I.uses a owns.owned S.there owns.is, S.is_sizes.pool.1) in
     let won : Bool = entry_now gfn t v == t.walk.entry in
     let under : Use = Under (table_page t.walk) (entry_index gfn t.walk.level) in
     subst (λ k. UsesAt z (upd_if won I.up k under) (part_behind a (part.Link gfn) note v)) (sym (ap page_owned owns.is))
     (own_alone z v a (part.Link gfn) note (upd_if won I.up owns.owned.page under) refl
     (subst (λ (o : Option OwnedPage). UsePart (actors_of z) z.pool (v.words area.Slots 0) (v.words area.PoolMap) (upd (λ i. (v.hand i).topics.owned) a o)
-    (λ i. (v.hand i).topics.retired) (upd_if won I.up owns.owned.page under)) (sym (link_stored t owns.owned won S.needs.1 owns.is small))
+    (λ i. (v.hand i).topics.retired) (upd_if won I.up owns.owned.page under)) (sym (link_stored t owns.owned won S.needs.0.upper owns.is small))
     (link_kept I.uses a S.there owns.owned won (table_page t.walk) (entry_index gfn t.walk.level) owns.is)))
 uses_after z v a (part.Leaf gfn write) note S I =
     own_alone z v a (part.Leaf gfn write) note I.up refl

@@ -1,6 +1,6 @@
 -- The leaf that a fault puts, over the run of its guest frame: it meets no open invalidation, and is the one that slots and host give each guest frame of the
 -- run.
-use Rattle.std.proofs.Common.{◌≡◌, ◌⊎◌, inl, inr, ◌-◌, ◌<◌, ◌≤◌, ℕ, sym, subst, ◌∙◌, arith}
+use Rattle.std.proofs.Common.{◌≡◌, ◌⊎◌, inl, inr, ◌<◌, ◌≤◌, ℕ, sym, subst, ◌∙◌, arith}
 use Rattle.std.specs.Prelude.{Bool, true}
 use Rattle.std.proofs.lemmas.Bool.{cases_lt}
 use Rattle.core_views.specs.declared.sizes.Sizes.{Sizes}

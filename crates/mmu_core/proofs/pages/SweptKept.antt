@@ -74,7 +74,8 @@ module _ (z : Sizes) (v : View) (a note : ℕ) (step : PartStep) (S : IsPart z v
   still_below own_ to new_ A =
       subst (λ root. AllOver (up_after step a (v.hand a).topics v I.up) (spot_after step (v.hand a).topics v I.spot)
       ((part_stepped a step note v).words area.Pool) root (IsNoLeafBelow own_ to)) (sym (ap (λ (r : ℕ → ℕ). r 0) (areas_stay v a step note area.Root refl)))
-      (over_step z v a step note S I (v.words area.Root 0) (IsNoLeafBelow own_ to) (ap is_table I.tree.top) (below_light own_ to) new_ A)
+      (over_step z v a step note S I (v.words area.Root 0) (IsNoLeafBelow own_ to) (ap is_table I.tree.top)
+      (below_light own_ to) (below_inherited own_ to) new_ A)
 
 -- of the actor itself, after its step
 abbrev OwnSwept : (z : Sizes) (v : View) (a note : ℕ) (step : PartStep) (S : IsPart z v a step) → TopicsInvariant z v → Topics → Type 0
@@ -200,7 +201,7 @@ own_swept z v a note (part.Protect gfn) S I = λ alone out opened. absurd (let n
 own_swept z v a note (part.SetStart first gfn) S I = λ alone out opened. absurd (let closed = S.needs.0.opening.closed in cc (closed, opened))
 own_swept z v a note (part.SetEnd last gfn) S I = λ alone out opened. absurd (let closed = S.needs.0.opening.closed in cc (closed, opened))
 own_swept z v a note (part.SetCount count) S I = λ alone out more from.
-    let none = (S.needs.opens (opened_by z v a I S.there (v.hand a).topics.invalidations.opened count refl S.needs.is more)).no_table in
+    let none = (S.needs.0.opens (opened_by z v a I S.there (v.hand a).topics.invalidations.opened count refl S.needs.0.is more)).no_table in
     absurd (omega (arith, none, from))
 own_swept z v a note step S I = λ alone out opened from.
     still_below z v a note step S I (v.hand a).topics.invalidations.own _ tt (I.swept a S.there alone out opened from)

@@ -1,21 +1,20 @@
 -- Each step of a part keeps what the tables are.
-use Rattle.std.proofs.Common.{◌≡◌, inl, inr, ◌+◌, ◌*◌, ◌/◌, ◌%◌, ◌^◌, ◌<◌, ◌≤◌, ℕ, refl, sym, subst, ap, ◌∙◌, arith}
+use Rattle.std.proofs.Common.{◌≡◌, inl, inr, ◌+◌, ◌*◌, ◌/◌, ◌%◌, ◌<◌, ◌≤◌, ℕ, refl, sym, subst, ap, ◌∙◌, arith}
 use Rattle.std.specs.Prelude.{Bool, true, false, ◌-◌, ◌==◌, if◌then◌else◌, Some}
 use Rattle.core_views.specs.declared.sizes.Sizes.{Sizes}
 use Rattle.core_views.specs.declared.topics.Topics.{Topics}
 use Rattle.spte_words.specs.declared.area.Area.TheVariants as area
 use Rattle.spte_words.specs.declared.spte_kind.SpteKind.TheVariants as entry_kind
 use Rattle.spte_words.specs.Areas.{pool_index}
-use Rattle.spte_words.specs.Entries.{absent_word, kind_of, level_span, without_write}
-use Rattle.spte_words.proofs.ReadsEntries.{kind_of_table}
+use Rattle.spte_words.specs.Entries.{absent_word, kind_of, level_span, without_write, word_below}
 use Rattle.spte_words.proofs.Spans.{span_1}
 use Rattle.part_steps.specs.declared.part_step.PartStep.{PartStep}
 use Rattle.part_steps.specs.declared.part_step.PartStep.TheVariants as part
-use Rattle.part_steps.specs.PartTasks.{entry_index, is_absent, leaf_written, link_written, page_owned, table_page, leaf_fixed}
-use Rattle.part_steps.specs.PartHoldings.{IsEnd, MayEnter}
+use Rattle.part_steps.specs.PartTasks.{entry_index, leaf_written, link_written, page_owned, table_page, leaf_fixed}
+use Rattle.part_steps.specs.PartHoldings.{IsEnd, MayLink}
 use Rattle.mmu_core.specs.invariant.PoolPart.{IsFilled}
 use Rattle.mmu_core.specs.invariant.TopicsInvariant.{TopicsInvariant}
-use Rattle.mmu_core.specs.invariant.TreePart.{EntryPart, Position, TreePart, Use, at, is_table, stands}
+use Rattle.mmu_core.specs.invariant.TreePart.{Position, TreePart, Use, at, is_table, stands}
 use Rattle.mmu_core.specs.invariant.TreePart.Use.{Under}
 use Rattle.mmu_core.specs.machine.View.{View, part_stepped, upd}
 use Rattle.mmu_core.proofs.pages.Owned.{OwnsWhole, table_owned}
@@ -25,8 +24,8 @@ use Rattle.mmu_core.proofs.machine.ColumnsTell.{tells}
 use Rattle.mmu_core.proofs.pages.PoolPages.{retired_no_table, owned_there, owned_use, table_not_owned}
 use Rattle.mmu_core.proofs.pages.Standing.{entry_now, position_below, spot_after, up_after, upd_if}
 use Rattle.mmu_core.proofs.machine.SumsBelow.{upd_id}
-use Rattle.mmu_core.proofs.pages.TreePlaces.{link_stands}
-use Rattle.mmu_core.proofs.pages.TreeStored.{entry_stored, table_linked, tree_moved}
+use Rattle.mmu_core.proofs.pages.LinkMade.{below_links_none, takes_one, filled_below, link_was}
+use Rattle.mmu_core.proofs.pages.TreeStored.{LinksNone, entry_stored, table_linked, tree_moved}
 use Rattle.mmu_core.proofs.pages.UsesStay.{is_link, same_tables, stay_same, stood_same}
 use Rattle.mmu_core.proofs.pages.EntryStill.{still_leaf}
 use Rattle.mmu_core.proofs.pages.ProtectedLeaf.{found_leaf, left_leaf, pool_protected}
@@ -44,21 +43,6 @@ span_lowest gfn level prefix lowest over =
     let one : level_span level ≡ 1 = ap level_span lowest ∙ span_1 in
     let own : gfn / level_span level ≡ gfn = ap (λ n. gfn / n) one ∙ omega arith in
     omega (arith, own, over)
-
--- An entry above the lowest level whose kind is absent is the absent word.
-pub absent_entry : {pages root : ℕ} {role pool : ℕ → ℕ} {up : ℕ → Use} {spot : ℕ → Position} (T : TreePart pages root role pool up spot)
-    (k level prefix j : ℕ) → stands up spot k ≡ Some (at level prefix) → j < 512 → 2 ≤ level → pages < 2 ^ 32
-    → kind_of level (pool (pool_index k j)) ≡ entry_kind.Absent → pool (pool_index k j) ≡ absent_word
-absent_entry {pages} {root} {role} {pool} {up} {spot} T k level prefix j at_k low upper few kind = by (T.entries k (at level prefix) at_k j low)
-  where
-    by : EntryPart up k (at level prefix) j (pool (pool_index k j)) → pool (pool_index k j) ≡ absent_word
-    by (inl e) = e
-    by (inr (inl L)) =
-        let there = T.there L.page (at (level - 1) (prefix * 512 + j)) (link_stands T k (at level prefix) j (pool (pool_index k j)) at_k L) in
-        let links : kind_of level (pool (pool_index k j)) ≡ entry_kind.Table L.page =
-        ap (kind_of level) L.is ∙ kind_of_table level L.page upper (omega (arith, few, there.0)) in
-        absurd (cc (kind, links))
-    by (inr (inr leaf)) = absurd (cc (kind, leaf))
 
 -- Where the step stores in no table, all tables stay.
 stay : (z : Sizes) (v : View) (a : ℕ) (step : PartStep) (note : ℕ) → IsPart z v a step → (I : TopicsInvariant z v) → is_link step ≡ false
@@ -98,24 +82,27 @@ module _ (z : Sizes) (v : View) (a gfn note : ℕ) (I : TopicsInvariant z v) whe
   linked S false is = lost here I.tree
   linked S true is =
       table_linked I.tree (table_page t.walk) t.walk.level t.walk.prefix index (page_owned t.owned) ((I.held a S.there).table may.saw.over.there)
-      S.needs.1 (omega arith) absent
+      may.upper (omega arith) none
       (ap (λ k. is_table (I.up k)) page ∙ ap is_table (owned_use I.uses a owns.owned S.there owns.is))
       (omega (arith, page, owned_there I.uses a owns.owned S.there owns.is))
       (ap (v.words area.Role) page ∙ filled.role_is owns.whole ∙ owns.role)
-      (λ i low. ap (λ k. v.words area.Pool (pool_index k i)) page
-      ∙ filled.absent (ap is_absent (sym owns.is) ∙ S.needs.3.absent) i (omega (arith, low, owns.whole)) low ∙ absent_is)
+      (λ i low. subst (λ k. LinksNone (t.walk.level - 1) (v.words area.Pool (pool_index k i))) (sym page)
+      (subst (LinksNone (t.walk.level - 1)) (sym (below_it i low)) (below_links_none t.walk.level t.walk.entry i may.upper top (takes_one _ may.takes))))
     where
-      may : MayEnter gfn t
+      may : MayLink gfn t
       may = S.needs.0
 
-      owns : OwnsWhole (t.walk.level - 1) t
-      owns = table_owned (t.walk.level - 1) t S.needs.3
+      top : t.walk.level ≤ 4
+      top = (I.tree.there (table_page t.walk) _ ((I.held a S.there).table may.saw.over.there)).2
 
-      absent : v.words area.Pool here ≡ absent_word
-      absent =
-          absent_entry I.tree (table_page t.walk) t.walk.level t.walk.prefix index
-          ((I.held a S.there).table may.saw.over.there) (omega arith) S.needs.1 (omega (arith, S.is_sizes.pool.1))
-          (ap (kind_of t.walk.level) (tells (entry_now gfn t v) t.walk.entry is) ∙ S.needs.2)
+      owns : OwnsWhole (t.walk.level - 1) t
+      owns = table_owned t S.needs.1
+
+      none : LinksNone t.walk.level (v.words area.Pool here)
+      none = link_was z v a gfn I S (tells (entry_now gfn t v) t.walk.entry is)
+
+      below_it : (i : ℕ) → i < 512 → v.words area.Pool (pool_index owns.owned.page i) ≡ word_below t.walk.level t.walk.entry i
+      below_it i low = filled_below z v a I S.there owns S.needs.1.below i low
 
       page : page_owned t.owned ≡ owns.owned.page
       page = ap page_owned owns.is

@@ -2,9 +2,10 @@
 use Rattle.std.proofs.Common.{◌≡◌, ◌≢◌, ◌⊎◌, inl, inr, ◌+◌, ◌*◌, ◌/◌, ◌<◌, ◌≤◌, ℕ, refl, sym, subst, ap, ◌∙◌, arith}
 use Rattle.std.specs.Prelude.{true, false, ◌-◌, if◌then◌else◌, Some, None}
 use Rattle.spte_words.specs.Areas.{pool_index}
-use Rattle.spte_words.specs.Entries.{absent_word, table_word}
+use Rattle.spte_words.specs.declared.spte_kind.SpteKind.TheVariants.{Leaf}
+use Rattle.spte_words.specs.Entries.{absent_word, kind_of, table_word}
 use Rattle.spte_words.proofs.Indices.{same_pool_word}
-use Rattle.spte_words.proofs.ReadsEntries.{table_not_absent}
+use Rattle.spte_words.proofs.ReadsEntries.{table_no_leaf, table_not_absent}
 use Rattle.part_steps.specs.PartHoldings.{IsEnd}
 use Rattle.mmu_core.specs.invariant.TreePart.{EntryPart, IsUnder, Position, TreePart, Use, at, is_table, stands}
 use Rattle.mmu_core.specs.invariant.TreePart.Use.{Root, Under}
@@ -24,7 +25,15 @@ still_stands up more spot place S k p at_k =
     let is = spot_of up spot k p at_k in
     at_spot more place k (up k) (S.use_ k is.0) is.0 ∙ ap Some (S.place_ k is.0 ∙ is.1)
 
--- One more table: linked, and without entries.
+-- The entry links to nothing: it is absent, or a leaf of its table's level.
+abbrev pub LinksNone : ℕ → ℕ → Type 0
+LinksNone level w = (w ≡ absent_word) ⊎ (kind_of level w ≡ Leaf)
+
+pub links_none_ends : (level w : ℕ) → LinksNone level w → IsEnd level w
+links_none_ends level w (inl none) page upper is = table_not_absent page (sym is ∙ none)
+links_none_ends level w (inr leaf) page upper is = table_no_leaf level page upper (ap (kind_of level) (sym is) ∙ leaf)
+
+-- One more table: linked, and without a table below it.
 pub record IsNew (pages : ℕ) (role pool : ℕ → ℕ) (up : ℕ → Use) (spot : ℕ → Position) (k : ℕ) (p : Position) : Type 0 where
   pub there : (k < pages) × (1 ≤ p.level) × (p.level ≤ 4)
   pub role_is : role k ≡ p.level
@@ -32,7 +41,7 @@ pub record IsNew (pages : ℕ) (role pool : ℕ → ℕ) (up : ℕ → Use) (spo
   pub entry : ℕ
   pub below : up k ≡ Under parent entry
   pub under : IsUnder pool up spot k p parent entry
-  pub absent : (j : ℕ) → j < 512 → pool (pool_index k j) ≡ absent_word
+  pub entries : (j : ℕ) → j < 512 → LinksNone p.level (pool (pool_index k j))
 
 -- What was stored in an entry makes it what it should be, and what was there was no link.
 pub record IsStored (up : ℕ → Use) (k : ℕ) (p : Position) (j old new_ : ℕ) : Type 0 where
@@ -46,6 +55,10 @@ entry_stays up more spot place k p j w S (inl e) = inl e
 entry_stays up more spot place k p j w S (inr (inl L)) =
     inr (inl (record { page = L.page; upper = L.upper; is = L.is; below = S.use_ L.page (ap is_table L.below) ∙ L.below }))
 entry_stays up more spot place k p j w S (inr (inr L)) = inr (inr L)
+
+links_none : {up : ℕ → Use} (k : ℕ) (p : Position) (j w : ℕ) → LinksNone p.level w → EntryPart up k p j w
+links_none k p j w (inl none) = inl none
+links_none k p j w (inr leaf) = inr (inr leaf)
 
 -- Tables are kept where each stays that stands, each other one is new, and each entry stays or is stored as it should be.
 module _ {pages root : ℕ} {role pool : ℕ → ℕ} {up : ℕ → Use} {spot : ℕ → Position} (T : TreePart pages root role pool up spot)
@@ -67,7 +80,7 @@ module _ {pages root : ℕ} {role pool : ℕ → ℕ} {up : ℕ → Use} {spot :
   role_is k p (inr N) = N.role_is
 
   entry : (k : ℕ) (p : Position) (j : ℕ) → j < 512 → Now k p → EntryPart more k p j (after (pool_index k j))
-  entry k p j low (inr N) = inl (N.absent j low)
+  entry k p j low (inr N) = links_none k p j _ (N.entries j low)
   entry k p j low (inl is) = by (words k p is j low)
     where
       by : (after (pool_index k j) ≡ pool (pool_index k j)) ⊎ IsStored more k p j (pool (pool_index k j)) (after (pool_index k j))
@@ -162,10 +175,10 @@ entry_stored {pages} {root} {role} {pool} {up} {spot} T k p j w at_k low S =
     tree_moved T role (upd pool (pool_index k j) w) up spot (all_stay up spot) (λ l q is. inl is) (λ l q is. refl)
     (stored_words pool up up spot k p j w at_k low S)
 
--- A table is linked by an absent entry of a table one level above.
+-- A table is linked by an entry of a table one level above, which is absent or a leaf.
 module _ {pages root : ℕ} {role pool : ℕ → ℕ} {up : ℕ → Use} {spot : ℕ → Position} (T : TreePart pages root role pool up spot)
     (k level prefix j page : ℕ) (at_k : stands up spot k ≡ Some (at level prefix)) (upper : 2 ≤ level) (low : j < 512)
-    (was : pool (pool_index k j) ≡ absent_word) (none : is_table (up page) ≡ false) where
+    (was : LinksNone level (pool (pool_index k j))) (none : is_table (up page) ≡ false) where
   -- the words, what the pages are and where the tables stand, after the link
   abbrev linked_words : ℕ → ℕ
   linked_words = upd pool (pool_index k j) (table_word page)
@@ -199,9 +212,9 @@ module _ {pages root : ℕ} {role pool : ℕ → ℕ} {up : ℕ → Use} {spot :
     link = upd_same pool (pool_index k j) (table_word page);
   }
 
-  pub table_linked : page < pages → role page ≡ level - 1 → ((i : ℕ) → i < 512 → pool (pool_index page i) ≡ absent_word)
+  pub table_linked : page < pages → role page ≡ level - 1 → ((i : ℕ) → i < 512 → LinksNone (level - 1) (pool (pool_index page i)))
       → TreePart pages root role linked_words more place
-  table_linked there role_is absent =
+  table_linked there role_is entries =
       tree_moved T role linked_words more place grow news (λ l p is. refl)
       (stored_words pool up more spot k (at level prefix) j (table_word page) at_k low stored)
     where
@@ -216,9 +229,9 @@ module _ {pages root : ℕ} {role pool : ℕ → ℕ} {up : ℕ → Use} {spot :
         entry = j;
         below = upd_same up page (Under k j);
         under = is_under;
-        absent =
-            λ i small. upd_other pool (pool_index k j) (pool_index page i) (table_word page)
-            (λ e. apart (sym (same_pool_word page k i j small low e).0)) ∙ absent i small;
+        entries =
+            λ i small. subst (LinksNone (level - 1)) (sym (upd_other pool (pool_index k j) (pool_index page i) (table_word page)
+            (λ e. apart (sym (same_pool_word page k i j small low e).0)))) (entries i small);
       }
 
       at_page : stands more place page ≡ Some below
@@ -242,5 +255,5 @@ module _ {pages root : ℕ} {role pool : ℕ → ℕ} {up : ℕ → Use} {spot :
       stored : IsStored more k (at level prefix) j (pool (pool_index k j)) (table_word page)
       stored = record {
         entry = inr (inl (record { page = page; upper = upper; is = refl; below = upd_same up page (Under k j) }));
-        no_link = λ other from e. table_not_absent other (sym e ∙ was);
+        no_link = links_none_ends level _ was;
       }

@@ -1,5 +1,5 @@
 -- What was a table stays the same table after each step of a part.
-use Rattle.std.proofs.Common.{◌≡◌, ◌≢◌, ◌⊎◌, inl, inr, ◌+◌, ◌*◌, ℕ, refl, sym, ap, ◌∙◌, ◌-◌}
+use Rattle.std.proofs.Common.{◌≡◌, ◌≢◌, ◌⊎◌, inl, inr, ◌+◌, ◌*◌, ℕ, refl, sym, ap, ◌∙◌}
 use Rattle.std.specs.Prelude.{Bool, true, false, ◌==◌, if◌then◌else◌, Option, Some, None}
 use Rattle.std.proofs.lemmas.Nat.Bits.{bit_at-trailing_zeros}
 use Rattle.core_views.specs.declared.sizes.Sizes.{Sizes}
@@ -102,7 +102,7 @@ pub tables_stay : (z : Sizes) (v : View) (a : ℕ) (step : PartStep) → IsPart 
     → TablesStay I.up (up_after step a (v.hand a).topics v I.up) I.spot (spot_after step (v.hand a).topics v I.spot)
 tables_stay z v a (part.Link gfn) S I =
     let t : Topics = (v.hand a).topics in
-    let O = table_owned (t.walk.level - 1) t S.needs.3 in
+    let O = table_owned t S.needs.1 in
     linked_stay (entry_now gfn t v == t.walk.entry) I.up I.spot (page_owned t.owned) (Under (table_page t.walk) (entry_index gfn t.walk.level))
     (position_below gfn t)
     (ap (λ x. is_table (I.up (page_owned x))) O.is ∙ ap is_table (owned_use I.uses a O.owned S.there O.is))
@@ -117,18 +117,18 @@ pub stays_standing : (z : Sizes) (v : View) (a : ℕ) (step : PartStep) → IsPa
 stays_standing z v a step S I =
     still_stands I.up (up_after step a (v.hand a).topics v I.up) I.spot (spot_after step (v.hand a).topics v I.spot) (tables_stay z v a step S I)
 
--- The step puts a table at this place, where it wins its exchange.
-abbrev pub IsLinkedAt : PartStep → Topics → Position → Type 0
-IsLinkedAt (part.Link gfn) t p = position_below gfn t ≡ p
-IsLinkedAt _ t p = ⊥
+-- The step wins its exchange, and puts a table at this place.
+abbrev pub IsLinkedAt : PartStep → Topics → View → Position → Type 0
+IsLinkedAt (part.Link gfn) t v p = ((entry_now gfn t v == t.walk.entry) ≡ true) × (position_below gfn t ≡ p)
+IsLinkedAt _ t v p = ⊥
 
 linked_or_stood : (won : Bool) (up : ℕ → Use) (spot : ℕ → Position) (page : ℕ) (w : Use) (q : Position) (k : ℕ) (p : Position)
-    → stands (upd_if won up page w) (upd_if won spot page q) k ≡ Some p → (stands up spot k ≡ Some p) ⊎ (q ≡ p)
+    → stands (upd_if won up page w) (upd_if won spot page q) k ≡ Some p → (stands up spot k ≡ Some p) ⊎ ((won ≡ true) × (q ≡ p))
 linked_or_stood false up spot page w q k p is = inl is
 linked_or_stood true up spot page w q k p is = by (same_or k page)
   where
-    by : (k ≡ page) ⊎ (k ≢ page) → (stands up spot k ≡ Some p) ⊎ (q ≡ p)
-    by (inl e) = inr (sym (upd_same spot page q) ∙ ap (upd spot page q) (sym e) ∙ (spot_of (upd up page w) (upd spot page q) k p is).1)
+    by : (k ≡ page) ⊎ (k ≢ page) → (stands up spot k ≡ Some p) ⊎ ((true ≡ true) × (q ≡ p))
+    by (inl e) = inr (refl, sym (upd_same spot page q) ∙ ap (upd spot page q) (sym e) ∙ (spot_of (upd up page w) (upd spot page q) k p is).1)
     by (inr ne) =
         inl (sym (ap (λ u. if is_table u then Some (upd spot page q k) else None) (upd_other up page k w ne)
         ∙ ap (λ x. if is_table (up k) then Some x else None) (upd_other spot page k q ne)) ∙ is)
@@ -136,7 +136,7 @@ linked_or_stood true up spot page w q k p is = by (same_or k page)
 -- What stands after a step stood there before, or where the step puts a table.
 pub stood_or_linked : (z : Sizes) (v : View) (a : ℕ) (step : PartStep) → IsPart z v a step → (I : TopicsInvariant z v) → (k : ℕ) (p : Position)
     → stands (up_after step a (v.hand a).topics v I.up) (spot_after step (v.hand a).topics v I.spot) k ≡ Some p
-    → (stands I.up I.spot k ≡ Some p) ⊎ IsLinkedAt step (v.hand a).topics p
+    → (stands I.up I.spot k ≡ Some p) ⊎ IsLinkedAt step (v.hand a).topics v p
 stood_or_linked z v a (part.Link gfn) S I k p is =
     let t : Topics = (v.hand a).topics in
     linked_or_stood (entry_now gfn t v == t.walk.entry) I.up I.spot (page_owned t.owned) (Under (table_page t.walk) (entry_index gfn t.walk.level))

@@ -3,6 +3,7 @@ use Rattle.std.proofs.Common.{◌≡◌, ◌+◌, ◌*◌, ◌^◌, ◌<◌, ℕ
 use Rattle.std.specs.Prelude.{Bool, true, false, if◌then◌else◌, Option, Some, None}
 use Rattle.std.specs.Int.{bit_not}
 use Rattle.core_views.specs.declared.topics.OwnedPage.{OwnedPage}
+use Rattle.core_views.specs.declared.topics.TableWalk.{TableWalk}
 use Rattle.spte_words.specs.Bits.{has_bit}
 use Rattle.mmu_core.specs.invariant.AreUsed.{AreUsed}
 use Rattle.mmu_core.specs.invariant.PoolPart.{UsePart, is_free, is_retired, is_owned, is_use, page_told}
@@ -17,8 +18,9 @@ use Rattle.mmu_core.proofs.pages.Standing.{upd_if}
 use Rattle.mmu_core.proofs.pages.Uses.{passes, told_after}
 
 -- A claim of bit j of word i, which was won or not.
-abbrev pub new_owned : Bool → ℕ → ℕ → Option OwnedPage
-new_owned won i j = if won then Some (record { page = 64 * i + j; filled = 0; absent = true; role = 0 }) else None
+abbrev pub new_owned : Bool → TableWalk → ℕ → ℕ → Option OwnedPage
+new_owned won walk i j =
+    if won then Some (record { page = 64 * i + j; filled = 0; entry = walk.entry; level = walk.level; below = true; role = 0 }) else None
 
 module _ {n pages slots : ℕ} {map : ℕ → ℕ} {owned : ℕ → Option OwnedPage} {retired : ℕ → Option ℕ} {up : ℕ → Use}
     (U : UsePart n pages slots map owned retired up) (a : ℕ) (lt : a < n) where
@@ -36,11 +38,11 @@ module _ {n pages slots : ℕ} {map : ℕ → ℕ} {owned : ℕ → Option Owned
       by (Owned l) k = place_stays is_owned n owned a new_ lt refl same l k ∙ U.told (Owned l) k
       by u k = U.told u k
 
-  pub claim_kept : (i j : ℕ) (won : Bool) → j < 64 → has_bit j (map i) ≡ won → owned a ≡ None
-      → UsePart n pages slots (upd map i (bit_and (map i) (bit_not w64 (2 ^ j)))) (upd owned a (new_owned won i j)) retired
+  pub claim_kept : (walk : TableWalk) (i j : ℕ) (won : Bool) → j < 64 → has_bit j (map i) ≡ won → owned a ≡ None
+      → UsePart n pages slots (upd map i (bit_and (map i) (bit_not w64 (2 ^ j)))) (upd owned a (new_owned won walk i j)) retired
       (upd_if won up (64 * i + j) (Owned a))
-  claim_kept i j false low found none = uses_stay _ None (free_unclaimed map i j low found) (λ k. sym (ap (λ x. is_owned x k) none))
-  claim_kept i j true low found none = record { told = by }
+  claim_kept walk i j false low found none = uses_stay _ None (free_unclaimed map i j low found) (λ k. sym (ap (λ x. is_owned x k) none))
+  claim_kept walk i j true low found none = record { told = by }
     where
       p : ℕ
       p = 64 * i + j
@@ -49,10 +51,10 @@ module _ {n pages slots : ℕ} {map : ℕ → ℕ} {owned : ℕ → Option Owned
       A = passes use_is U.told p Free (Owned a) (free_use U p (page_free map i j low ∙ found)) refl
 
       by : AreUsed Use is_use
-          (page_told n pages slots (upd map i (bit_and (map i) (bit_not w64 (2 ^ j)))) (upd owned a (new_owned true i j)) retired (upd up p (Owned a)))
+          (page_told n pages slots (upd map i (bit_and (map i) (bit_not w64 (2 ^ j)))) (upd owned a (new_owned true walk i j)) retired (upd up p (Owned a)))
           (upd up p (Owned a))
       by Free k = free_cleared map i j low k ∙ A Free k
-      by (Owned l) k = place_comes is_owned n owned a (new_owned true i j) lt none p (one_more p) l k ∙ A (Owned l) k
+      by (Owned l) k = place_comes is_owned n owned a (new_owned true walk i j) lt none p (one_more p) l k ∙ A (Owned l) k
       by Root k = refl
       by (Under page entry) k = refl
       by u k = A u k

@@ -113,7 +113,7 @@ own_zapped z v a note (part.SetStart first gfn) S I = λ is_open.
     let opened = empty_open (part_topics (part.SetStart first gfn) (v.hand a).topics 0) is_open in
     absurd (let closed = S.needs.0.opening.closed in cc (closed, opened))
 own_zapped z v a note (part.SetCount count) S I = λ is_open asked.
-    absurd (counted_unasked count (v.hand a).topics S.needs (empty_open (part_topics (part.SetCount count) (v.hand a).topics
+    absurd (counted_unasked count (v.hand a).topics S.needs.0 (empty_open (part_topics (part.SetCount count) (v.hand a).topics
     (answer_in (part_task (part.SetCount count) a (v.hand a).topics note) v.words)) is_open) asked)
 own_zapped z v a note part.Publish S I = λ is_open.
     absurd (published_none (v.hand a).topics.invalidations.opened (v.hand a).topics.invalidations.own.pages S.needs.of_no_page is_open)
@@ -150,4 +150,4 @@ zapped_kept z v a step note S I =
         → IsZapped ((part_stepped a step note v).words area.Root) own_
     carried own_ A new_ =
         subst (λ root. IsZapped root own_) (sym (areas_stay v a step note area.Root refl))
-        (over_step z v a step note S I (v.words area.Root 0) (IsNoLeafIn own_) (ap is_table I.tree.top) (no_leaf_light own_) new_ A)
+        (over_step z v a step note S I (v.words area.Root 0) (IsNoLeafIn own_) (ap is_table I.tree.top) (no_leaf_light own_) (no_leaf_inherited own_) new_ A)

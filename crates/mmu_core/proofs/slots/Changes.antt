@@ -30,7 +30,7 @@ use Rattle.part_steps.specs.SlotWords.{memory_slots_below, slot_at}
 use Rattle.mmu_core.specs.invariant.Invariant.{Invariant, IsSetBy, RecordPart}
 use Rattle.mmu_core.specs.invariant.SlotSetPart.{AreSlots, Fits, IsLiveIn, SlotSetPart}
 use Rattle.mmu_core.specs.machine.View.{View}
-use Rattle.part_steps.specs.PartHoldings.{OwnsSet}
+use Rattle.part_steps.specs.SetHoldings.{OwnsSet}
 use Rattle.mmu_core.proofs.machine.Columns.{same_or}
 use Rattle.mmu_core.proofs.machine.PartStepping.{AreAlikeBut}
 use Rattle.mmu_core.proofs.machine.Stepping.{IsStep}

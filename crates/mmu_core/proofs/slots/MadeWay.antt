@@ -15,7 +15,7 @@ use Rattle.part_steps.specs.declared.part_step.PartStep.TheVariants as part
 use Rattle.part_steps.specs.ControlTopics.{count_checked}
 use Rattle.part_steps.specs.InvalidationRange.{IsAimed, page_of_look}
 use Rattle.part_steps.specs.LockHoldings.{HasFlushedAll}
-use Rattle.part_steps.specs.PartHoldings.{OwnsSet, own_open}
+use Rattle.part_steps.specs.SetHoldings.{OwnsSet, own_open}
 use Rattle.part_steps.specs.PartSteps.{IsFree}
 use Rattle.part_steps.specs.PartTopics.{part_topics}
 use Rattle.part_steps.specs.StayTopics.{no_flush}

@@ -19,7 +19,7 @@ use Rattle.spte_words.specs.Flags.{flags_live, flags_logged, flags_read_only}
 use Rattle.spte_words.proofs.ReadsFlags.{flags_are_live, flags_are_logged, flags_are_read_only}
 use Rattle.mmu_core.specs.invariant.Invariant.{IsLiveIn, RecordPart}
 use Rattle.part_steps.specs.PartTasks.{page_owned}
-use Rattle.part_steps.specs.PartHoldings.{OwnsSet}
+use Rattle.part_steps.specs.SetHoldings.{OwnsSet}
 use Rattle.mmu_core.proofs.pages.Owned.{set_owned}
 use Rattle.part_steps.specs.SetWords.{IsFilledWith, set_word, word_of_slot}
 use Rattle.part_steps.specs.SlotWords.{field_number, live_at, memory_slot_at, memory_slots_below, slot_at, slot_index}

@@ -26,7 +26,8 @@ use Rattle.part_steps.specs.FrameHoldings.{revises}
 use Rattle.part_steps.specs.FrameTopics.{frame_owned}
 use Rattle.part_steps.proofs.FrameWords.{copied_within, stored_within}
 use Rattle.part_steps.specs.InvalidationHoldings.{MayCount}
-use Rattle.part_steps.specs.PartHoldings.{LookedUp, OwnsTable, MayPublish, MayGiveOld, MayMark}
+use Rattle.part_steps.specs.PartHoldings.{LookedUp, OwnsTable, MayMark}
+use Rattle.part_steps.specs.SetHoldings.{MayPublish, MayGiveOld}
 use Rattle.part_steps.specs.PartSteps.{PartNeeds}
 use Rattle.part_steps.specs.SlotWords.{field_number, leaf_of, may_write, slot_index}
 use Rattle.part_steps.specs.Tasks.{map_of}
@@ -151,7 +152,7 @@ power_small : (k : ℕ) → k < 64 → 2 ^ k < 2 ^ 64
 power_small k lt = pow-lt lt
 
 -- A link is to a page of the pool, and a leaf to a frame of the machine.
-link_small : (h : Held) → OwnsTable (h.topics.walk.level - 1) h.topics → PartRests h → link_written h.topics < 2 ^ 64
+link_small : (h : Held) → OwnsTable h.topics → PartRests h → link_written h.topics < 2 ^ 64
 link_small h O R =
     let page = page_there h (some_filled h.topics.owned 513 O.whole (omega arith)) R in
     table_fits (page_owned h.topics.owned) (omega (arith, page, R.sizes.pool.1))
@@ -210,7 +211,7 @@ part_small part.Claim h note N R = not_small (2 ^ tried_bit h.topics.claim)
 part_small (part.Fill value) h note N R = N.1
 part_small (part.Role value) h note N R = N.1
 part_small part.Give h note N R = power_small (page_owned h.topics.owned % 64) (omega arith)
-part_small (part.Link gfn) h note N R = link_small h N.3 R
+part_small (part.Link gfn) h note N R = link_small h N.1 R
 part_small (part.Leaf gfn write) h note N R = leaf_small gfn h write N.0.looked_up R
 part_small (part.Fix gfn) h note N R =
     fixed_fits h.topics.walk.entry R.counters.entry (is_not (can_write h.topics.walk.entry) (both (not (can_write h.topics.walk.entry)) _ N.fixable).0)
@@ -219,7 +220,7 @@ part_small part.Publish h note N R = publish_small h N R
 part_small part.GiveOld h note N R = power_small (page_retired h.topics.retired % 64) (omega arith)
 part_small (part.SetStart first gfn) h note N R = N.2
 part_small (part.SetEnd last gfn) h note N R = N.2
-part_small (part.SetCount count) h note N R = count_small h count N R
+part_small (part.SetCount count) h note N R = count_small h count N.0 R
 part_small (part.SetSeq seq) h note N R = let is = N.1 in let few = R.counters.seq in omega (arith, is, few)
 part_small part.Bring h note N R =
     word_fits (word_looked h.topics.host) (host_frame (word_looked h.topics.host)) true (host_allows_write (word_looked h.topics.host))

@@ -1,3 +1,4 @@
 pub mod HostSteps
+pub mod HostLeft
 pub mod HostKnows
 pub mod HostForm

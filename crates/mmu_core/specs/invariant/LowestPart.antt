@@ -1,5 +1,5 @@
--- All leaves are of level 1, linked ones and cached ones, and so are host words: no step puts a larger one. This part goes with the first step that does; of
--- the other parts one rests on it, that a page which is invalidated is a small one.
+-- All leaves are of level 1, linked ones and cached ones, and so are host words: no line makes a large host page. This part goes with the first line that does;
+-- no other part rests on it.
 use Rattle.std.specs.Prelude.{◌≡◌, ◌<◌, ℕ, All, Some}
 use Rattle.core_views.specs.declared.cache.Translation.{Translation}
 use Rattle.core_views.specs.declared.sizes.Sizes.{Sizes}

@@ -3,6 +3,7 @@ use Rattle.std.specs.Prelude.{◌≡◌, ◌<◌, ◌≤◌, ◌/◌, ◌%◌, �
 use Rattle.core_views.specs.declared.topics.OwnedPage.{OwnedPage}
 use Rattle.spte_words.specs.Areas.{pool_index}
 use Rattle.spte_words.specs.Bits.{has_bit}
+use Rattle.spte_words.specs.Entries.{word_below}
 use Rattle.mmu_core.specs.invariant.AreUsed.{AreUsed, has_at, is_number}
 use Rattle.mmu_core.specs.invariant.TreePart.{Use}
 use Rattle.mmu_core.specs.invariant.TreePart.Use.{Free, Root, SlotSet, Outside, Owned, Under, OldSet}
@@ -53,10 +54,10 @@ page_told n pages slots map owned retired up (Under page entry) k = is_use (Unde
 pub record UsePart (n pages slots : ℕ) (map : ℕ → ℕ) (owned : ℕ → Option OwnedPage) (retired : ℕ → Option ℕ) (up : ℕ → Use) : Type 0 where
   pub told : AreUsed Use is_use (page_told n pages slots map owned retired up) up
 
--- What an owner has filled: 512 words and the role at most; where it says that all are 0 they are; and the role is what it says.
+-- What an owner has filled: 512 words and the role at most; where it says that all are those below an entry they are; and the role is what it says.
 pub record IsFilled (role pool : ℕ → ℕ) (o : OwnedPage) : Type 0 where
   pub most : o.filled ≤ 513
-  pub absent : o.absent ≡ true → (j : ℕ) → j < o.filled → j < 512 → pool (pool_index o.page j) ≡ 0
+  pub below : o.below ≡ true → (j : ℕ) → j < o.filled → j < 512 → pool (pool_index o.page j) ≡ word_below o.level o.entry j
   pub role_is : o.filled ≡ 513 → role o.page ≡ o.role
 
 abbrev pub FilledPart : ℕ → (ℕ → ℕ) → (ℕ → ℕ) → (ℕ → Option OwnedPage) → Type 0

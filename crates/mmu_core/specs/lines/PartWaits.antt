@@ -11,7 +11,7 @@ use Rattle.core_views.specs.Held.{Held}
 use Rattle.spte_words.specs.declared.area.Area.TheVariants as area
 use Rattle.spte_words.specs.Areas.{place}
 use Rattle.spte_words.specs.Bits.{has_bit}
-pub use Rattle.part_steps.specs.PartHoldings.{own_open}
+pub use Rattle.part_steps.specs.SetHoldings.{own_open}
 use Rattle.part_steps.specs.declared.part_step.PartStep.{PartStep}
 use Rattle.part_steps.specs.declared.part_step.PartStep.TheVariants as part
 use Rattle.part_steps.specs.PageTopics.{is_won, tried_bit}

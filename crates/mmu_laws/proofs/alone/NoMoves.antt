@@ -2,12 +2,13 @@
 use Rattle.core_views.specs.declared.trace.Command.TheVariants.{ClearLog, GetLog}
 use Rattle.mmu_core.proofs.forms.log.LogTold.{log_tells_so}
 use Rattle.std.proofs.Common.{◌≡◌, ◌≢◌, List, [], ◌∷◌, ◌++◌, ℕ, refl}
-use Rattle.std.specs.Prelude.{Bool, true, false, ◌==◌}
+use Rattle.std.specs.Prelude.{Bool, true, false, ◌==◌, if◌then◌else◌}
 use Rattle.core_views.specs.declared.actor.Actor.{Actor}
 use Rattle.core_views.specs.declared.answer.Answer.TheVariants.{Refused}
-use Rattle.core_views.specs.declared.answer.Refusal.TheVariants.{NoFrame}
+use Rattle.core_views.specs.declared.answer.Refusal.TheVariants.{NoFrame, IsHuge}
 use Rattle.core_views.specs.declared.event.EventKind.{EventKind}
 use Rattle.core_views.specs.declared.event.EventKind.TheVariants.{BroughtIn, Exited, HostChanged, LookedAtHost, LookedAtSlots}
+use Rattle.core_views.specs.declared.place.BeginPlace.TheVariants as begins
 use Rattle.core_views.specs.declared.place.AccessPlace.{AccessPlace}
 use Rattle.core_views.specs.declared.place.AccessPlace.TheVariants as access
 use Rattle.core_views.specs.declared.place.FaultEnd.{FaultEnd}
@@ -38,6 +39,7 @@ use Rattle.mmu_core.proofs.lines.EitherPlace.{either_place}
 use Rattle.mmu_core.proofs.lines.Forms.{place_tells}
 use Rattle.mmu_core.proofs.lines.SimplePlaces.{Told, Nothing, Arms, ArmsClean, Exit, Change, OfAccess, OfHost, OfLog}
 use Rattle.mmu_laws.proofs.flat.Told.{told}
+use Rattle.mmu_core.specs.forms.host.HostSteps.{after_look, maps_large}
 
 abbrev pub IsNoMove : EventKind → Type 0
 IsNoMove (Exited (Refused NoFrame)) = ⊥
@@ -135,5 +137,9 @@ tells_no_move p command h v = by p command (tells_at p command h v) (place_tells
     by _ _ _ (OfHost (host.Claim begun) page change) other = absurd (cc other)
     by _ _ _ (OfHost host.Change page change) other = absurd (cc other)
     by _ _ _ (OfHost (host.Look moving) page change) other =
-        either_place AreNoMoves (is_own h.state.sizes h.state.actor page) (LookedAtHost page ∷ []) [] (tt, tt) tt
+        either_place AreNoMoves (is_own h.state.sizes h.state.actor page) (LookedAtHost page ∷ exiting (after_look moving v)) [] (
+          tt,
+          either_place (λ o. AreNoMoves (exiting o)) (maps_large v) (Ends (Refused IsHuge))
+              (Goes (place.Host (if moving then host.Claim false else host.Begin begins.Exclude))) (tt, tt) tt,
+        ) tt
     by _ _ _ (OfHost q page change) other = tt

@@ -20,7 +20,7 @@ use Rattle.mmu_core.specs.declared.outcome.Outcome.{Outcome}
 use Rattle.mmu_core.specs.declared.outcome.Outcome.TheVariants.{Goes, Ends}
 use Rattle.mmu_core.specs.forms.access.AccessSteps.{access_tells, exiting, fault_over}
 use Rattle.mmu_core.specs.lines.Forms.{outcome_at, tells_at}
-use Rattle.mmu_core.specs.forms.host.HostSteps.{entry_of, host_outcome, host_tells, word_put}
+use Rattle.mmu_core.specs.forms.host.HostSteps.{entry_of, host_outcome, host_tells, word_put, after_look}
 use Rattle.mmu_core.proofs.lines.EitherPlace.{either_place}
 use Rattle.mmu_core.proofs.lines.Forms.{place_tells}
 use Rattle.mmu_core.proofs.lines.SimplePlaces.{Told, Nothing, Arms, ArmsClean, Exit, Change, OfAccess, OfHost, OfLog}
@@ -43,7 +43,8 @@ access_none _ h gfn word op v = tt
 
 host_none : (p : HostPlace) (page : ℕ) (change : HostChange) (h : Held) (v : ℕ) → AreNoReadings (host_tells p page change h v)
 host_none (host.Look moving) page change h v =
-    either_place AreNoReadings (is_own h.state.sizes h.state.actor page) (LookedAtHost page ∷ []) [] (tt, tt) tt
+    either_place AreNoReadings (is_own h.state.sizes h.state.actor page) (LookedAtHost page ∷ exiting (after_look moving v)) []
+    (tt, exit_none (after_look moving v)) tt
 host_none (host.Claim begun) page change h v = exit_none (host_outcome (host.Claim begun) page h v)
 host_none host.Change page change h v =
     either_place AreNoReadings (v == word_looked h.topics.host) (HostChanged page (entry_of (word_put change h.topics)) ∷ []) [] (tt, tt) tt

@@ -7,7 +7,7 @@ use Rattle.std.proofs.Common.{◌≡◌, ◌⊎◌, inl, inr, ◌+◌, ℕ, refl
 use Rattle.std.proofs.lemmas.Bool.Decides.{nat_tests}
 use Rattle.std.specs.Prelude.{List, Bool, true, false, ◌==◌, nat_lt, if◌then◌else◌, is_some, Option, Some, None}
 use Rattle.core_views.specs.declared.answer.Answer.TheVariants.{Done, Refused, Starved}
-use Rattle.core_views.specs.declared.answer.Refusal.TheVariants.{NoFrame, OutOfRange}
+use Rattle.core_views.specs.declared.answer.Refusal.TheVariants.{NoFrame, OutOfRange, IsHuge}
 use Rattle.core_views.specs.declared.place.AccessPlace.{AccessPlace}
 use Rattle.core_views.specs.declared.place.AccessPlace.TheVariants as access
 use Rattle.core_views.specs.declared.place.BeginPlace.TheVariants as begins
@@ -34,7 +34,7 @@ use Rattle.core_views.specs.LogCommands.{is_all_set}
 use Rattle.core_views.specs.SlotCommands.{slot_armed, slot_invalidated}
 use Rattle.core_views.specs.Slots.{contains, is_write}
 use Rattle.part_steps.specs.LogHoldings.{log_end}
-use Rattle.part_steps.specs.PartHoldings.{own_open}
+use Rattle.part_steps.specs.SetHoldings.{own_open}
 use Rattle.part_steps.specs.PartTasks.{words_filled}
 use Rattle.mmu_core.specs.declared.invalidate.BeginNext.{BeginNext}
 use Rattle.mmu_core.specs.declared.invalidate.BeginNext.TheVariants as begins_next
@@ -49,7 +49,7 @@ use Rattle.mmu_core.specs.declared.claim.FreeMap.TheVariants.{Frames, Pages}
 use Rattle.mmu_core.specs.orders.ClaimSteps.{claim_next}
 use Rattle.mmu_core.specs.forms.access.FaultSteps.{fault_next}
 use Rattle.mmu_core.specs.lines.Forms.{outcome_at}
-use Rattle.mmu_core.specs.forms.host.HostSteps.{host_outcome, moves}
+use Rattle.mmu_core.specs.forms.host.HostSteps.{host_outcome, moves, after_look, maps_large}
 use Rattle.mmu_core.specs.orders.InvalidateSteps.{begin_next, end_next}
 use Rattle.mmu_core.specs.forms.slot_change.SlotChangeSteps.{after_grace, after_protect, after_set_begin, after_set_end, arm_word, frames_of, log_target}
 use Rattle.mmu_core.specs.forms.slot_change.SlotChangeSteps.{slot_change_outcome, slot_target, watch_next}
@@ -95,8 +95,9 @@ access_elsewhere _ h gfn op x = tt
 
 host_elsewhere : (p : HostPlace) (page : ℕ) (h : Held) (x : ℕ) → GoesElsewhere (host_outcome p page h x)
 host_elsewhere (host_at.Look moving) page h x =
-    either_place GoesElsewhere (is_own h.state.sizes h.state.actor page)
-    (Goes (place.Host (if moving then host_at.Claim false else host_at.Begin begins.Exclude))) (Ends (Refused OutOfRange)) tt tt
+    either_place GoesElsewhere (is_own h.state.sizes h.state.actor page) (after_look moving x) (Ends (Refused OutOfRange))
+    (either_place GoesElsewhere (maps_large x) (Ends (Refused IsHuge))
+    (Goes (place.Host (if moving then host_at.Claim false else host_at.Begin begins.Exclude))) tt tt) tt
 host_elsewhere (host_at.Claim begun) page h x =
     each_claim GoesElsewhere (claim_next Frames begun h.state.sizes h.topics.frames.claim x) (place.Host (host_at.Claim true))
     (place.Host (host_at.Begin begins.Exclude)) (Refused NoFrame) tt tt tt

@@ -25,7 +25,7 @@ use Rattle.part_steps.specs.PartTasks.{page_looked, word_looked}
 use Rattle.mmu_core.specs.declared.outcome.Outcome.{Outcome}
 use Rattle.mmu_core.specs.declared.outcome.Outcome.TheVariants.{Goes, Ends}
 use Rattle.mmu_core.specs.forms.access.AccessSteps.{access_tells, exiting, fault_over}
-use Rattle.mmu_core.specs.forms.host.HostSteps.{entry_of, host_outcome, host_tells, word_put}
+use Rattle.mmu_core.specs.forms.host.HostSteps.{entry_of, host_outcome, host_tells, word_put, after_look}
 use Rattle.mmu_core.specs.machine.Outcomes.{answering}
 use Rattle.mmu_core.specs.machine.Steps.{beginning}
 use Rattle.mmu_core.proofs.lines.EitherPlace.{either_place}
@@ -104,7 +104,8 @@ access_mild (Fault (fault.End e)) h gfn word op v = exit_mild (fault_over e)
 access_mild _ h gfn word op v = tt
 
 pub host_mild : (p : HostPlace) (page : ℕ) (change : HostChange) (h : Held) (v : ℕ) → AreMild (host_tells p page change h v)
-host_mild (host_at.Look moving) page change h v = either_place AreMild (is_own h.state.sizes h.state.actor page) (LookedAtHost page ∷ []) [] (tt, tt) tt
+host_mild (host_at.Look moving) page change h v =
+    either_place AreMild (is_own h.state.sizes h.state.actor page) (LookedAtHost page ∷ exiting (after_look moving v)) [] (tt, exit_mild (after_look moving v)) tt
 host_mild (host_at.Claim begun) page change h v = exit_mild (host_outcome (host_at.Claim begun) page h v)
 host_mild host_at.Change page change h v =
     either_place AreMild (v == word_looked h.topics.host) (HostChanged page (entry_of (word_put change h.topics)) ∷ []) [] (tt, tt) tt

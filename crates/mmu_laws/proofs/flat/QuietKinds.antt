@@ -36,7 +36,7 @@ use Rattle.mmu_core.specs.declared.outcome.Outcome.{Outcome}
 use Rattle.mmu_core.specs.declared.outcome.Outcome.TheVariants.{Goes, Ends}
 use Rattle.mmu_core.specs.forms.access.AccessSteps.{access_tells, exiting, fault_over}
 use Rattle.mmu_core.specs.lines.Forms.{tells_at}
-use Rattle.mmu_core.specs.forms.host.HostSteps.{entry_of, host_outcome, host_tells, word_put}
+use Rattle.mmu_core.specs.forms.host.HostSteps.{entry_of, host_outcome, host_tells, word_put, after_look}
 use Rattle.mmu_core.specs.forms.slot_change.SlotChangeSteps.{slot_change_outcome}
 use Rattle.mmu_core.specs.forms.slot_change.SlotChangeTells.{slot_change_tells}
 use Rattle.mmu_core.specs.machine.Outcomes.{answering}
@@ -103,7 +103,8 @@ change_quiet (change.WriteProtect range _) h command v quiet = tt
 change_quiet _ h command v quiet = tt
 
 host_quiet : (p : HostPlace) (page : ℕ) (change : HostChange) (h : Held) (v : ℕ) → AreQuiet (host_tells p page change h v)
-host_quiet (host_at.Look moving) page change h v = either_place AreQuiet (is_own h.state.sizes h.state.actor page) (LookedAtHost page ∷ []) [] (tt, tt) tt
+host_quiet (host_at.Look moving) page change h v =
+    either_place AreQuiet (is_own h.state.sizes h.state.actor page) (LookedAtHost page ∷ exiting (after_look moving v)) [] (tt, exit_quiet (after_look moving v)) tt
 host_quiet (host_at.Claim begun) page change h v = exit_quiet (host_outcome (host_at.Claim begun) page h v)
 host_quiet host_at.Change page change h v =
     either_place AreQuiet (v == word_looked h.topics.host) (HostChanged page (entry_of (word_put change h.topics)) ∷ []) [] (tt, tt) tt

@@ -4,7 +4,7 @@ use Rattle.part_steps.specs.PartTasks.{word_looked, page_looked}
 use Rattle.std.specs.Prelude.{◌==◌, Bool, true, false, if◌then◌else◌, Option}
 use Rattle.core_views.specs.HostChanges.{is_own}
 use Rattle.mmu_core.proofs.lines.EitherPlace.{either_place}
-use Rattle.mmu_core.specs.forms.host.HostSteps.{host_tells, entry_of, word_put, host_outcome}
+use Rattle.mmu_core.specs.forms.host.HostSteps.{host_tells, entry_of, word_put, host_outcome, after_look}
 use Rattle.core_views.specs.declared.place.HostPlace.{HostPlace}
 use Rattle.core_views.specs.declared.place.HostPlace.TheVariants as host_at
 use Rattle.core_views.specs.declared.event.EventKind.TheVariants.{Armed, BroughtIn, Exited, Harvested, HostChanged, LookedAtHost, LookedAtPause}
@@ -27,15 +27,21 @@ use Rattle.mmu_core.specs.lines.Forms.{outcome_at, tells_at}
 use Rattle.core_views.specs.declared.trace.HostChange.{HostChange}
 use Rattle.mmu_core.proofs.lines.Forms.{place_tells}
 use Rattle.mmu_core.proofs.lines.SimplePlaces.{Told, Nothing, Arms, ArmsClean, Exit, Change, OfAccess, OfHost, OfLog}
+use Rattle.core_views.specs.declared.answer.Answer.{Answer}
 
 -- What is so of few lists of events is so of what each step tells, besides that its line begins or is answered: of no event, of one that stands within a line,
--- of a slot's change and such a list after it, and of a reading's begin and end.
+-- of a slot's change and such a list after it, of a reading's begin and end, and of a look at a host page and an exit.
 module _ (Q : List EventKind → Type 0) (none : Q []) (one : (k : EventKind) → IsInside k → Q (k ∷ []))
     (change : (id : ℕ) (slot : Option MemorySlot) (more : List EventKind) → Q more → Q (SlotChanged id slot ∷ more))
-    (both : (id : ℕ) (frames : List ℕ) → Q (Taken id ∷ Shown id frames ∷ [])) where
+    (both : (id : ℕ) (frames : List ℕ) → Q (Taken id ∷ Shown id frames ∷ []))
+    (seen : (page : ℕ) (answer : Answer) → Q (LookedAtHost page ∷ Exited answer ∷ [])) where
   exit_so : (o : Outcome) → Q (exiting o)
   exit_so (Goes p) = none
   exit_so (Ends answer) = one (Exited answer) tt
+
+  looked_so : (page : ℕ) (o : Outcome) → Q (LookedAtHost page ∷ exiting o)
+  looked_so page (Goes p) = one (LookedAtHost page) tt
+  looked_so page (Ends answer) = seen page answer
 
   look_so : (begun : Bool) → Q (if begun then [] else LookedAtSlots ∷ [])
   look_so true = none
@@ -54,7 +60,8 @@ module _ (Q : List EventKind → Type 0) (none : Q []) (one : (k : EventKind) �
 
   host_so : (p : HostPlace) (page : ℕ) (change_ : HostChange) (h : Held) (v : ℕ) → Q (host_tells p page change_ h v)
   host_so (host_at.Look moving) page change_ h v =
-      either_place Q (is_own h.state.sizes h.state.actor page) (LookedAtHost page ∷ []) [] (one _ tt) none
+      either_place Q (is_own h.state.sizes h.state.actor page) (LookedAtHost page ∷ exiting (after_look moving v)) []
+      (looked_so page (after_look moving v)) none
   host_so (host_at.Claim begun) page change_ h v = exit_so (host_outcome (host_at.Claim begun) page h v)
   host_so host_at.Change page change_ h v =
       either_place Q (v == word_looked h.topics.host) (HostChanged page (entry_of (word_put change_ h.topics)) ∷ []) [] (one _ tt) none
@@ -82,7 +89,8 @@ AllWithin (k ∷ ks) = IsInside k × AllWithin ks
 -- Besides its begin and its answer, a line tells only events that stand within it.
 pub tells_within : (p : Place) (command : Command) (h : Held) (v : ℕ) → AllWithin (tells_at p command h v)
 tells_within p command h v =
-    tells_so AllWithin tt (λ k within. (within, tt)) (λ id slot more rest. (tt, rest)) (λ id frames. (tt, (tt, tt))) p command h v
+    tells_so AllWithin tt (λ k within. (within, tt)) (λ id slot more rest. (tt, rest)) (λ id frames. (tt, (tt, tt)))
+    (λ page answer. (tt, (tt, tt))) p command h v
 
 -- What a reading takes out of a log its step tells as the last event but for the answer.
 abbrev pub ends_there : EventKind → List EventKind → Type 0
@@ -94,7 +102,8 @@ HarvestsLast [] = Unit {0}
 HarvestsLast (k ∷ ks) = ends_there k ks × HarvestsLast ks
 
 pub harvests_last : (p : Place) (command : Command) (h : Held) (v : ℕ) → HarvestsLast (tells_at p command h v)
-harvests_last p command h v = tells_so HarvestsLast tt one_last (λ id slot more rest. (tt, rest)) (λ id frames. (tt, (tt, tt))) p command h v
+harvests_last p command h v =
+    tells_so HarvestsLast tt one_last (λ id slot more rest. (tt, rest)) (λ id frames. (tt, (tt, tt))) (λ page answer. (tt, (tt, tt))) p command h v
   where
     one_last : (k : EventKind) → IsInside k → HarvestsLast (k ∷ [])
     one_last (Harvested id frames) within = (refl, tt)

@@ -5,3 +5,4 @@ pub mod HostEntries
 pub mod ExchangeFlat
 pub mod HostLines
 pub mod HostNearer
+pub mod LookNotes

@@ -166,7 +166,7 @@ module _ (z : Sizes) (v : View) (a note : ℕ) where
       → IsIn (now step).invalidations.own gfn → (keeps_empty t ≡ true) × (1 ≤ t.flush.asked) × IsIn t.invalidations.own gfn
   swept_before (part.SetStart first g) gfn S none keeps asked is_in = absurd (none S.needs.0.opening.alone)
   swept_before (part.SetEnd last g) gfn S none keeps asked is_in = absurd (none S.needs.0.opening.alone)
-  swept_before (part.SetCount count) gfn S none keeps asked is_in = absurd (none S.needs.alone)
+  swept_before (part.SetCount count) gfn S none keeps asked is_in = absurd (none S.needs.0.alone)
   swept_before part.Publish gfn S none keeps asked is_in = absurd (none S.needs.alone)
   swept_before (part.Ask index) gfn S none keeps asked is_in = absurd (none (S.needs.alone (empty_open (now (part.Ask index)) keeps)))
   swept_before part.Exclude gfn S none keeps asked is_in = (

@@ -17,8 +17,9 @@ use Rattle.core_views.specs.Sizes.{actor_at, sizes_of}
 use Rattle.core_views.specs.Whole.{lines_of}
 use Rattle.spte_words.specs.declared.area.Area.{Area}
 use Rattle.spte_words.specs.declared.area.Area.TheVariants as area
+use Rattle.spte_words.specs.declared.spte_kind.SpteKind.TheVariants as entry_kind
 use Rattle.spte_words.specs.Areas.{pool_index}
-use Rattle.spte_words.specs.Entries.{absent_word, level_span}
+use Rattle.spte_words.specs.Entries.{absent_word, level_span, kind_of}
 use Rattle.spte_words.proofs.ReadsEntries.{table_not_absent}
 use Rattle.spte_words.proofs.Spans.{span_above}
 use Rattle.part_steps.specs.declared.part_step.PartStep.{PartStep}
@@ -45,6 +46,11 @@ use Rattle.mmu_core.proofs.start.StartWords.{pool_word}
 use Rattle.mmu_core.proofs.words.PartWords.{areas_stay}
 use Rattle.mmu_laws.proofs.flat.EveryAnswer.{step_follows}
 use Rattle.mmu_laws.proofs.pool.WantedSpans.{HasOwnLines, IsForSlot, IsWantedSpan, manager_place, wanted_by_line}
+use Rattle.mmu_core.proofs.pages.LinkMade.{takes_one}
+use Rattle.mmu_core.proofs.pages.LeavesOver.{leaf_for}
+use Rattle.mmu_core.proofs.pages.Standing.{entry_now, position_below}
+use Rattle.mmu_core.proofs.machine.ColumnsTell.{tells}
+use Rattle.part_steps.specs.PartTasks.{entry_index, table_page}
 
 -- What is known of each table: it is the root, or for a span that is wanted.
 abbrev pub AreWanted : Header → List Line → ℕ → (ℕ → Option Position) → Type 0
@@ -68,20 +74,36 @@ span_below gfn level prefix upper over =
     div-div-eq-div-mul gfn (level_span (level - 1)) 512 ∙ ap (λ n. gfn / n) (omega (arith, span)) in
     omega (arith, whole, over)
 
--- A table is linked for the guest frame of a fault, whose slot is live.
-linked_for : (z : Sizes) (v : View) (a : ℕ) (step : PartStep) (p : Position) → IsPart z v a step → TopicsInvariant z v → IsLinkedAt step (v.hand a).topics p
-    → IsForSlot (v.words area.Pool) (v.words area.Slots 0) p
-linked_for z v a (part.Link gfn) p S I is =
-    let t : Topics = (v.hand a).topics in
-    let may : MayEnter gfn t = S.needs.0 in
-    subst (IsForSlot (v.words area.Pool) (v.words area.Slots 0)) is (record {
-      gfn = gfn;
-      id = t.search.id - 1;
-      slot = t.search.slot;
-      live = found_live z v a gfn S.there I may;
-      holds = may.looked_up.found.holds;
-      span = span_below gfn t.walk.level t.walk.prefix S.needs.1 may.saw.over.span;
-    })
+-- A table is linked for the guest frame of a fault, whose slot is live; or in place of a leaf, which is of a live slot.
+linked_for : (z : Sizes) (v : View) (a : ℕ) (step : PartStep) (p : Position) → IsPart z v a step → TopicsInvariant z v
+    → IsLinkedAt step (v.hand a).topics v p → IsForSlot (v.words area.Pool) (v.words area.Slots 0) p
+linked_for z v a (part.Link gfn) p S I is = subst (IsForSlot (v.words area.Pool) (v.words area.Slots 0)) is.1 (by (takes_one _ S.needs.0.takes))
+  where
+    t : Topics
+    t = (v.hand a).topics
+
+    span : gfn / level_span (t.walk.level - 1) / 512 ≡ t.walk.prefix * 512 + gfn / level_span t.walk.level % 512
+    span = span_below gfn t.walk.level t.walk.prefix S.needs.0.upper S.needs.0.saw.over.span
+
+    by : (kind_of t.walk.level t.walk.entry ≡ entry_kind.Absent) ⊎ (kind_of t.walk.level t.walk.entry ≡ entry_kind.Leaf)
+        → IsForSlot (v.words area.Pool) (v.words area.Slots 0) (position_below gfn t)
+    by (inl none) =
+        let may : MayEnter gfn t = S.needs.0.enters none in
+        record {
+          gfn = gfn;
+          id = t.search.id - 1;
+          slot = t.search.slot;
+          live = found_live z v a gfn S.there I may;
+          holds = may.looked_up.found.holds;
+          span = span;
+        }
+    by (inr leaf) =
+        let at_walk = (I.held a S.there).table S.needs.0.saw.over.there in
+        let found : kind_of t.walk.level (entry_now gfn t v) ≡ entry_kind.Leaf =
+        ap (kind_of t.walk.level) (tells (entry_now gfn t v) t.walk.entry is.0) ∙ leaf in
+        let L = leaf_for z v I (table_page t.walk) t.walk.level t.walk.prefix (entry_index gfn t.walk.level) gfn at_walk (omega arith)
+        (let over = S.needs.0.saw.over.span in omega (arith, over)) found in
+        record { gfn = gfn; id = L.id; slot = L.slot; live = L.live; holds = L.holds; span = span }
 linked_for z v a _ p S I is = absurd is
 
 -- ---- from world to world
@@ -93,7 +115,7 @@ module _ (h : Header) (lines : List Line) (v : View) (a : ℕ) (I : TopicsInvari
   part_wanted step note S up spot T k p is =
       by (stood_or_linked (sizes_of h) v a step S I k p (stands_in_both T (tree_kept (sizes_of h) v a step note S I) k p is))
     where
-      by : (stands I.up I.spot k ≡ Some p) ⊎ IsLinkedAt step (v.hand a).topics p
+      by : (stands I.up I.spot k ≡ Some p) ⊎ IsLinkedAt step (v.hand a).topics v p
           → (k ≡ (part_stepped a step note v).words area.Root 0) ⊎ IsWantedSpan h lines p
       by (inl stood) =
           subst (λ (root : ℕ → ℕ). (k ≡ root 0) ⊎ IsWantedSpan h lines p) (sym (areas_stay v a step note area.Root refl)) (A I.up I.spot I.tree k p stood)

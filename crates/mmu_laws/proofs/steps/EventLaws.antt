@@ -40,9 +40,9 @@ use Rattle.mmu_core.proofs.lines.SimplePlaces.{Told, Nothing, Arms, ArmsClean, E
 use Rattle.part_steps.specs.declared.part_step.PartStep.{PartStep}
 use Rattle.mmu_core.specs.machine.Enabled.{mmu}
 use Rattle.mmu_core.specs.machine.Machine.{May, Step, World, answered, hand_in}
-use Rattle.mmu_core.specs.forms.access.AccessSteps.{fault_over, task_by}
+use Rattle.mmu_core.specs.forms.access.AccessSteps.{fault_over, task_by, exiting}
 use Rattle.mmu_core.specs.forms.host.HostKnows.{HostKnows}
-use Rattle.mmu_core.specs.forms.host.HostSteps.{entry_of, host_outcome, word_put}
+use Rattle.mmu_core.specs.forms.host.HostSteps.{entry_of, host_outcome, word_put, after_look}
 use Rattle.core_views.specs.declared.kind.StepKind.TheVariants as kind
 use Rattle.spte_words.specs.Areas.{place as place_of}
 use Rattle.spte_words.specs.declared.area.Area.TheVariants as area
@@ -59,6 +59,9 @@ use Rattle.part_steps.specs.Tasks.{kind_of_task}
 use Rattle.mmu_laws.specs.steps.EventLaws.{HasAwaited, IsOfKindOn, MayTell, MayTellOf}
 use Rattle.mmu_laws.proofs.steps.MayTells.{AllMay, answers_so, begins_so, exits_so, none, one}
 use Rattle.mmu_laws.proofs.forms.log.ReadingEvents.{log_told}
+use Rattle.core_views.specs.declared.answer.Refusal.TheVariants.{OutOfRange}
+use Rattle.core_views.specs.declared.answer.Answer.TheVariants.{Refused}
+use Rattle.mmu_core.specs.declared.outcome.Outcome.TheVariants.{Ends}
 
 module _ (h : Held) (v : ℕ) where
   abbrev z : Sizes
@@ -124,11 +127,13 @@ module _ (h : Held) (v : ℕ) where
         watched = K.1.0;
       }
 
-  look_told : (own : Bool) (page : ℕ) (command : Command) (o : Outcome) → is_own z h.state.actor page ≡ own
-      → AllMay z h v command o (kind_of_task z (part_task (if own then part.Host page else part.Seq) (own_index h) h.topics (if own then 0 else 1)))
-      (if own then LookedAtHost page ∷ [] else [])
-  look_told true page command o is = one z h v _ _ _ _ (record { kind_is = refl; on = refl })
-  look_told false page command o is = none z h v _ _ _
+  look_told : (own : Bool) (page : ℕ) (command : Command) (o : Outcome)
+      → AllMay z h v command (if own then o else Ends (Refused OutOfRange))
+      (kind_of_task z (part_task (if own then part.Host page else part.Seq) (own_index h) h.topics 1)) (if own then LookedAtHost page ∷ exiting o else [])
+  look_told true page command o =
+      let k : Kind = kind_of_task z (part_task (part.Host page) (own_index h) h.topics 1) in
+      All-cons (MayTellOf z h command o k v) (LookedAtHost page) _ (record { kind_is = refl; on = refl }) (exits_so z h v command k o)
+  look_told false page command o = none z h v _ _ _
 
   exchange_told : (won : Bool) (page : ℕ) (change : HostChange) → (v == word_looked h.topics.host) ≡ won → page_looked h.topics.host ≡ page
       → AllMay z h v (ChangeHost page change) (outcome_at (place.Host host_at.Change) (ChangeHost page change) h v)
@@ -143,7 +148,7 @@ module _ (h : Held) (v : ℕ) where
   exchange_told false page change is at = none z h v _ _ _
 
   host_told : (p : HostPlace) (page : ℕ) (change : HostChange) → HostKnows p page change h → AllTold (place.Host p) (ChangeHost page change)
-  host_told (host_at.Look moving) page change K = look_told (is_own z h.state.actor page) page _ _ refl
+  host_told (host_at.Look moving) page change K = look_told (is_own z h.state.actor page) page _ (after_look moving v)
   host_told (host_at.Claim begun) page change K = exits_so z h v _ _ (host_outcome (host_at.Claim begun) page h v)
   host_told host_at.Change page change K = exchange_told (v == word_looked h.topics.host) page change refl K.0.at
   host_told _ page change K = none z h v _ _ _

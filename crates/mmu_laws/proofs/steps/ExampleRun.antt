@@ -14,7 +14,7 @@ use Rattle.spte_words.specs.Areas.{content_index, place, pool_index}
 use Rattle.spte_words.specs.Entries.{absent_word, can_write, frame_in, frozen_word, is_leaf_at, kind_of, leaf_word, level_span, mapped_frame, table_word}
 use Rattle.spte_words.specs.Entries.{host_writable, mmu_writable}
 use Rattle.spte_words.specs.Flags.{flags_live, flags_logged, flags_read_only, flags_word}
-use Rattle.spte_words.specs.HostWords.{host_allows_write, host_frame, host_present, host_word}
+use Rattle.spte_words.specs.HostWords.{host_allows_write, host_frame, host_level, host_present, host_word}
 use Rattle.mmu_laws.specs.steps.ExampleRaces.{ExampleRaces, first_line, race_events, race_lines, second_line}
 use Rattle.mmu_laws.specs.steps.ExampleRuns.{ExamplePrints, ExampleRuns, add_line, forbidden_line, other_slot_line, outsider_line, reader_line}
 use Rattle.mmu_laws.specs.steps.ExampleRuns.{run_events, run_lines, sum_line, write_line}
@@ -39,7 +39,7 @@ run_whole :
     × (tells_all run_rounds (start_view run_sizes run_lines) ≡ run_events)
 unfolding flushed topics_after place kind_of level_span table_word frozen_word content_index pool_index absent_word frame_in mapped_frame leaf_word flags_live
     flags_read_only flags_word host_allows_write host_frame host_present host_word can_write is_leaf_at flags_logged host_writable mmu_writable
-    count_trailing_zeros
+    count_trailing_zeros host_level
 run_whole = (refl, refl)
 
 -- The one host thread has all pages.
@@ -134,7 +134,7 @@ small_whole :
     (fits_all small_sizes small_rounds (start_view small_sizes small_lines) ≡ true)
     × (tells_all small_rounds (start_view small_sizes small_lines) ≡ small_events)
 unfolding flushed topics_after place kind_of level_span table_word frozen_word content_index pool_index absent_word frame_in mapped_frame leaf_word flags_live
-    flags_read_only flags_word host_allows_write host_frame host_present host_word can_write is_leaf_at flags_logged count_trailing_zeros
+    flags_read_only flags_word host_allows_write host_frame host_present host_word can_write is_leaf_at flags_logged count_trailing_zeros host_level
 small_whole = (refl, refl)
 
 small_allowed : All (May small_sizes) small_lines
@@ -164,7 +164,7 @@ race_whole :
     (fits_all run_sizes race_rounds (start_view run_sizes race_lines) ≡ true)
     × (tells_all race_rounds (start_view run_sizes race_lines) ≡ race_events)
 unfolding flushed topics_after place kind_of level_span table_word frozen_word content_index pool_index absent_word frame_in mapped_frame leaf_word flags_live
-    flags_read_only flags_word host_allows_write host_frame host_present host_word can_write is_leaf_at flags_logged count_trailing_zeros
+    flags_read_only flags_word host_allows_write host_frame host_present host_word can_write is_leaf_at flags_logged count_trailing_zeros host_level
 race_whole = (refl, refl)
 
 pub race_allowed : (pool : ℕ) → All (May (record run_sizes { pool = pool })) race_lines
@@ -203,7 +203,7 @@ wait_whole :
     × (tells_all wait_rounds (start_view run_sizes wait_lines) ≡ wait_events)
     × (((leads_all wait_rounds (start_view run_sizes wait_lines)).hand 3).state.delays ≡ 3)
 unfolding flushed topics_after place kind_of level_span table_word frozen_word content_index pool_index absent_word frame_in mapped_frame leaf_word flags_live
-    flags_read_only flags_word host_allows_write host_frame host_present host_word can_write is_leaf_at flags_logged count_trailing_zeros
+    flags_read_only flags_word host_allows_write host_frame host_present host_word can_write is_leaf_at flags_logged count_trailing_zeros host_level
 wait_whole = (refl, refl, refl)
 
 wait_allowed : All (May run_sizes) wait_lines

@@ -10,7 +10,7 @@ use Rattle.spte_words.specs.declared.area.Area.TheVariants as area
 use Rattle.spte_words.specs.Areas.{content_index, place, pool_index}
 use Rattle.spte_words.specs.Entries.{absent_word, can_write, frame_in, frozen_word, is_leaf_at, kind_of, leaf_word, level_span, mapped_frame, table_word}
 use Rattle.spte_words.specs.Flags.{flags_live, flags_logged, flags_read_only, flags_word}
-use Rattle.spte_words.specs.HostWords.{host_allows_write, host_frame, host_present, host_word}
+use Rattle.spte_words.specs.HostWords.{host_allows_write, host_frame, host_level, host_present, host_word}
 use Rattle.part_steps.specs.TopicSteps.{topics_after}
 use Rattle.flat_laws.specs.Laws.{example_slot}
 use Rattle.mmu_core.specs.forms.access.Cached.{flushed}
@@ -45,18 +45,18 @@ enough_rounds = rounds_to_claim ++ (steps_of 551 1 ∷ steps_of 526 0 ∷ steps_
 -- with six pages: before the second write, and the whole run
 none_free : (fits_all tight_sizes rounds_to_claim (begun 6) ≡ true) × (map_after 6 rounds_to_claim ≡ 0)
 unfolding flushed topics_after place kind_of level_span table_word frozen_word content_index pool_index absent_word frame_in mapped_frame leaf_word flags_live
-    flags_read_only flags_word host_allows_write host_frame host_present host_word can_write is_leaf_at flags_logged count_trailing_zeros
+    flags_read_only flags_word host_allows_write host_frame host_present host_word can_write is_leaf_at flags_logged count_trailing_zeros host_level
 none_free = (refl, refl)
 
 tight_whole : (fits_all tight_sizes tight_rounds (begun 6) ≡ true) × (tells_all tight_rounds (begun 6) ≡ tight_events)
 unfolding flushed topics_after place kind_of level_span table_word frozen_word content_index pool_index absent_word frame_in mapped_frame leaf_word flags_live
-    flags_read_only flags_word host_allows_write host_frame host_present host_word can_write is_leaf_at flags_logged count_trailing_zeros
+    flags_read_only flags_word host_allows_write host_frame host_present host_word can_write is_leaf_at flags_logged count_trailing_zeros host_level
 tight_whole = (refl, refl)
 
 -- and with seven
 one_free : (fits_all run_sizes rounds_to_claim (begun 7) ≡ true) × (map_after 7 rounds_to_claim ≡ 2 ^ 6)
 unfolding flushed topics_after place kind_of level_span table_word frozen_word content_index pool_index absent_word frame_in mapped_frame leaf_word flags_live
-    flags_read_only flags_word host_allows_write host_frame host_present host_word can_write is_leaf_at flags_logged count_trailing_zeros
+    flags_read_only flags_word host_allows_write host_frame host_present host_word can_write is_leaf_at flags_logged count_trailing_zeros host_level
 one_free = (refl, refl)
 
 enough_whole :
@@ -64,7 +64,7 @@ enough_whole :
     × (tells_all enough_rounds (begun 7) ≡ enough_events)
     × (((leads_all enough_rounds (begun 7)).hand 0).state.delays ≡ 1)
 unfolding flushed topics_after place kind_of level_span table_word frozen_word content_index pool_index absent_word frame_in mapped_frame leaf_word flags_live
-    flags_read_only flags_word host_allows_write host_frame host_present host_word can_write is_leaf_at flags_logged count_trailing_zeros
+    flags_read_only flags_word host_allows_write host_frame host_present host_word can_write is_leaf_at flags_logged count_trailing_zeros host_level
 enough_whole = (refl, refl, refl)
 
 -- Lines that set no slot need no page.

@@ -17,6 +17,7 @@ use Rattle.mmu_core.specs.machine.View.{View, put, upd}
 use Rattle.mmu_core.proofs.machine.Columns.{same_or, upd_same}
 use Rattle.mmu_laws.specs.steps.ExampleRaces.{in_turn}
 use Rattle.mmu_laws.proofs.steps.ViewRuns.{HaveLines, Runs, tale, tells, turned, turned_all}
+use Rattle.spte_words.specs.Entries.{word_below}
 
 -- ---- the words
 
@@ -90,15 +91,16 @@ no_words words word page from b i = by (number_of b == number_of area.Pool)
 
 -- ---- the hand
 
--- n words, beginning with this one, are 0.
-abbrev pub are_zero : (ℕ → ℕ) → ℕ → ℕ → Bool
-are_zero word from zero = true
-are_zero word from (suc n) = word from == 0 && are_zero word (from + 1) n
+-- n words, beginning with this one, are those below an entry of the level.
+abbrev pub are_below : ℕ → ℕ → (ℕ → ℕ) → ℕ → ℕ → Bool
+are_below level entry word from zero = true
+are_below level entry word from (suc n) = word from == word_below level entry from && are_below level entry word (from + 1) n
 
--- the page with n words more; whether all are absent is seldom asked, and so not computed before
+-- the page with n words more; whether all are those below its entry is seldom asked, and so not computed before
 abbrev pub filled_with : (ℕ → ℕ) → ℕ → OwnedPage → OwnedPage
 filled_with word n o =
-    let absent : Bool = o.absent && are_zero word o.filled n in record { page = o.page; filled = o.filled + n; absent = absent; role = o.role }
+    let below : Bool = o.below && are_below o.level o.entry word o.filled n in
+    record { page = o.page; filled = o.filled + n; entry = o.entry; level = o.level; below = below; role = o.role }
 
 -- the hand with its line at this place, this command, page and count of steps
 abbrev pub at_fill : Place → Command → OwnedPage → ℕ → Held → Held
@@ -167,7 +169,7 @@ none_made F steps h held is = is ∙ same (omega arith) (omega arith)
 
     same : o.filled ≡ o.filled + 0 → steps ≡ steps + 0 → at_fill (F.place (nat_lt o.filled 512)) F.command o steps h ≡ hand_filled F 0 steps h
     same filled_is steps_are = λ s. at_fill (F.place (nat_lt (filled_is s) 512)) F.command
-        (record { page = o.page; filled = filled_is s; absent = and_true o.absent s; role = o.role }) (steps_are s) h
+        (record { page = o.page; filled = filled_is s; entry = o.entry; level = o.level; below = and_true o.below s; role = o.role }) (steps_are s) h
 
 -- one, and n after it
 one_made : (F : Filler) (n steps : ℕ) (h : Held) → hand_filled (one_filled F) n (steps + 1) h ≡ hand_filled F (suc n) steps h
@@ -175,10 +177,12 @@ one_made F n steps h =
     let o : OwnedPage = F.owned in
     let more : o.filled + 1 + n ≡ o.filled + suc n = omega arith in
     let count : steps + 1 + n ≡ steps + suc n = omega arith in
-    let absent : ((o.absent && (F.word o.filled == 0 && true)) && are_zero F.word (o.filled + 1) n)
-    ≡ (o.absent && (F.word o.filled == 0 && are_zero F.word (o.filled + 1) n)) =
-    and_later o.absent (F.word o.filled == 0) (are_zero F.word (o.filled + 1) n) in
-    λ s. at_fill (F.place (nat_lt (more s) 512)) F.command (record { page = o.page; filled = more s; absent = absent s; role = o.role }) (count s) h
+    let fits : Bool = F.word o.filled == word_below o.level o.entry o.filled in
+    let below : ((o.below && (fits && true)) && are_below o.level o.entry F.word (o.filled + 1) n)
+    ≡ (o.below && (fits && are_below o.level o.entry F.word (o.filled + 1) n)) =
+    and_later o.below fits (are_below o.level o.entry F.word (o.filled + 1) n) in
+    λ s. at_fill (F.place (nat_lt (more s) 512)) F.command
+    (record { page = o.page; filled = more s; entry = o.entry; level = o.level; below = below s; role = o.role }) (count s) h
 
 -- a hand that is stored twice
 stored_again : (hand : ℕ → Held) (a i : ℕ) (x y y' : Held) → y ≡ y' → upd (upd hand a x) a y i ≡ upd hand a y' i

@@ -70,9 +70,9 @@ module _ (h : Held) (words : Area → ℕ → ℕ) where
       → (words_after (part_task step (own_index h) h.topics note) words area.Count 0 ≡ words area.Count 0) ⊎ Counts (part_task step (own_index h) h.topics note)
   counts_or_stays (part.SetCount count) note N C = inr (record {
     sets = refl;
-    alone = N.alone;
-    counted = N.is ∙ ap (λ n. if h.topics.invalidations.opened then n - 1 else n + 1) (C.counted (has_alone h.topics.hold N.alone) N.knows);
-    ends = N.closes;
+    alone = N.0.alone;
+    counted = N.0.is ∙ ap (λ n. if h.topics.invalidations.opened then n - 1 else n + 1) (C.counted (has_alone h.topics.hold N.0.alone) N.0.knows);
+    ends = N.0.closes;
   })
   counts_or_stays _ note N C = inl refl
 

@@ -101,7 +101,7 @@ module _ (z : Sizes) (w : World Held) (s : Step Kind) (G : IsSound z w) (may : M
     owing : (step : PartStep) (M : Makes h s step) → (part_task step (own_index h) t M.note).kind ≡ kind.Swap → OwesMarkAfter z w s
     owing (part.Leaf gfn write) M is = by_exchange gfn (leaf_written gfn write t) (part.Leaf gfn write) M M.needs.0.saw M.needs.0.looked_up.found refl refl
     owing (part.Fix gfn) M is = by_exchange gfn (leaf_fixed t) (part.Fix gfn) M M.needs.saw M.needs.found refl refl
-    owing (part.Link gfn) M is = let high = M.needs.1 in let low = A.lowest in absurd (omega (arith, high, low))
+    owing (part.Link gfn) M is = let high = M.needs.0.upper in let low = A.lowest in absurd (omega (arith, high, low))
     owing (part.Fill value) M is = absurd (cc is)
     owing _ M is = absurd (cc is)
 

@@ -5,6 +5,7 @@ use Rattle.std.specs.Prelude.{Bool, true, false, ◌+◌, ◌==◌, if◌then◌
 use Rattle.std.proofs.lemmas.Bool.Decides.{nat_tests}
 use Rattle.core_views.specs.declared.kind.Kind.{Kind}
 use Rattle.core_views.specs.declared.kind.StepKind.TheVariants as kind
+use Rattle.core_views.specs.declared.place.HostPlace.TheVariants.{Look}
 use Rattle.core_views.specs.declared.place.LogPlace.TheVariants.{Await}
 use Rattle.core_views.specs.declared.place.Place.{Place}
 use Rattle.core_views.specs.declared.place.Place.TheVariants as place
@@ -39,11 +40,12 @@ use Rattle.mmu_core.proofs.lines.ByStep.{step_needs}
 use Rattle.mmu_core.proofs.orders.ClaimMade.{ClaimMade, claim_made}
 use Rattle.mmu_core.proofs.orders.ClaimMade as made
 use Rattle.mmu_core.proofs.lines.ClaimPlaces.{claims_or_not}
-use Rattle.mmu_core.proofs.lines.LineClaims.{Claims, ClaimsNot, HasNote, MayEnd, ends_after, note_by, one_claim}
+use Rattle.mmu_core.proofs.lines.LineClaims.{Claims, ClaimsNot, HasNote, MayEnd, ends_after, note_by, one_claim, IsLook}
 use Rattle.mmu_core.proofs.machine.Which.{is_next}
-use Rattle.mmu_laws.specs.steps.StepLaws.{AwaitsLast, LoadsLastWord, NoteTells}
+use Rattle.mmu_laws.specs.steps.NoteLaws.{AwaitsLast, LoadsLastWord, NoteTells, LooksAtPage}
 use Rattle.mmu_laws.proofs.forms.log.AwaitNotes.{await_tells, awaits_or_not, awaits_without, may_end_awaits}
 use Rattle.mmu_laws.proofs.steps.StepLaws.{tells_part, tells_touch}
+use Rattle.mmu_laws.proofs.forms.host.LookNotes.{look_tells, looks_without}
 
 -- ---- the map of a claim
 
@@ -118,6 +120,9 @@ module _ (p : Place) (map : FreeMap) (may_end : ends_with_claim map p ≡ true) 
       let end = word_place_at (map_of z) (map_area map) words in
       omega (arith, there, first, end, last)
 
+  looks_none : (k : Kind) → LooksAtPage p k → ⊥
+  looks_none k K = let none = ap (claim_at map) K.at ∙ looks_without K.moves map in cc (none, at)
+
   -- The claim goes on after the load of a word: of the last one, in which it saw something free, or of another one.
   goes_on : (last zero_ : Bool) → (word + 1 == words) ≡ last → (v == 0) ≡ zero_ → word + (if zero_ then 1 else 0) < words → ends_with o ≡ 0
       → Tells (load_part map word) last
@@ -127,12 +132,14 @@ module _ (p : Place) (map : FreeMap) (may_end : ends_with_claim map p ≡ true) 
       record {
         tells = inr (inl (last_word one));
         awaits = λ A. absurd (awaits_none _ A);
+        looks = λ K. absurd (looks_none _ K);
         last = λ L. (noted (load_part map word) 1, goes ∙ ap (λ (b : Bool). if b then 1 else 0) (sym zero_));
       }
   goes_on false _ last zero_ lt goes =
       record {
         tells = inl (noted (load_part map word) 0 ∙ sym goes);
         awaits = λ A. absurd (awaits_none _ A);
+        looks = λ K. absurd (looks_none _ K);
         last = λ L. absurd (let one = at_end 0 L in grind (arith, nat_tests));
       }
 
@@ -142,6 +149,7 @@ module _ (p : Place) (map : FreeMap) (may_end : ends_with_claim map p ≡ true) 
   ends true true last zero_ lt le over = record {
     tells = inl (noted (load_part map word) 1 ∙ sym over);
     awaits = λ A. absurd (awaits_none _ A);
+    looks = λ K. absurd (looks_none _ K);
     last = λ L. (noted (load_part map word) 1, over ∙ ap (λ (b : Bool). if b then 1 else 0) (sym zero_));
   }
   ends false true last zero_ lt le over = absurd (let other : word + 1 ≢ words = grind (arith, nat_tests) in omega (arith, lt, le, other))
@@ -152,6 +160,7 @@ module _ (p : Place) (map : FreeMap) (may_end : ends_with_claim map p ≡ true) 
   tries_so goes = record {
     tells = inl (noted (try_part map) 0 ∙ sym goes);
     awaits = λ A. absurd (awaits_none _ A);
+    looks = λ K. absurd (looks_none _ K);
     last = λ L. absurd (tries_no_load map z own t 0 L.loads);
   }
 
@@ -165,15 +174,25 @@ module _ (p : Place) (map : FreeMap) (may_end : ends_with_claim map p ≡ true) 
 
 -- ---- each line
 
--- The line may not end with the load of a last word, nor with the look at the last virtual processor.
-record EndsWithNeither (p : Place) : Type 0 where
+-- The line may not end with the load of a last word, nor with the look at the last virtual processor, nor with that at its page.
+record EndsWithNone (p : Place) : Type 0 where
   no_claim : (map : FreeMap) → ends_with_claim map p ≡ true → ⊥
-  no_look : p ≢ place.Log Await
+  no_await : p ≢ place.Log Await
+  no_look : IsLook p → ⊥
+
+looks_or_not : (p : Place) → IsLook p ⊎ (IsLook p → ⊥)
+looks_or_not (place.Host (Look moves)) = inl (moves, refl)
+looks_or_not (place.Host _) = inr (λ look. let e = look.1 in cc e)
+looks_or_not _ = inr (λ look. let e = look.1 in cc e)
 
 -- So the note is 1 exactly where it ends.
-tells_exactly : (p : Place) (z : Sizes) (t : Task) (o : Outcome) (v : ℕ) → t.may_end ≡ ends_with o → EndsWithNeither p → NoteTells p z (kind_of_task z t) o v
-tells_exactly p z t o v is E =
-    record { tells = inl is; last = λ L. absurd (E.no_claim L.map L.ends); awaits = λ A. absurd (E.no_look A.at) }
+tells_exactly : (p : Place) (z : Sizes) (t : Task) (o : Outcome) (v : ℕ) → t.may_end ≡ ends_with o → EndsWithNone p → NoteTells p z (kind_of_task z t) o v
+tells_exactly p z t o v is E = record {
+  tells = inl is;
+  last = λ L. absurd (E.no_claim L.map L.ends);
+  awaits = λ A. absurd (E.no_await A.at);
+  looks = λ L. absurd (E.no_look (L.moves, L.at));
+}
 
 note_is : (s : Option PartStep) (h : Held) (note : ℕ) (touch : Task) → (s ≡ None → touch.may_end ≡ 0) → (task_by s h note touch).may_end ≡ note_by s note
 note_is None h note touch none = none refl
@@ -218,30 +237,35 @@ module _ (p : Place) (command : Command) (h : Held) (v : ℕ) (R : RestsAt p com
       tells_exactly p h.state.sizes (part_task (step_of C) (own_index h) h.topics note) outcome v
       ((tells_part (step_of C) (own_index h) h.topics note).note_is ∙ N) (record {
         no_claim = λ map e. let here = subst (λ m. ends_with_claim m p ≡ true) (one_map p C.map map C.begun C.at e) e in cc (never, here);
-        no_look = λ is. let none = ap (claim_at C.map) is ∙ awaits_without C.map in let at = C.at in cc (none, at);
+        no_await = λ is. let none = ap (claim_at C.map) is ∙ awaits_without C.map in let at = C.at in cc (none, at);
+        no_look = λ look. let none = ap (claim_at C.map) look.1 ∙ looks_without look.0 C.map in let at = C.at in cc (none, at);
       })
 
-  -- Each other step tells it, but the look at the last virtual processor.
-  other_tells : ClaimsNot p command h v → p ≢ place.Log Await → TellsOf (task_at p command h)
-  other_tells N apart = by N.note
+  -- Each other step tells it, but the look at the last virtual processor, and that at a host page.
+  other_tells : ClaimsNot p command h v → p ≢ place.Log Await → (IsLook p → ⊥) → TellsOf (task_at p command h)
+  other_tells N apart never = by N.note
     where
-      by : (note_by (part_at p command h) note ≡ ends_with outcome) ⊎ MayEnd p command h v → TellsOf (task_at p command h)
+      by : (note_by (part_at p command h) note ≡ ends_with outcome) ⊎ MayEnd p command h v ⊎ IsLook p → TellsOf (task_at p command h)
       by (inl is) =
           tells_exactly p h.state.sizes (task_at p command h) outcome v
           (note_is (part_at p command h) h note (touch_at command h) (touch_note p command h) ∙ is) (record {
             no_claim = λ map e. let some = claims_there map p e in let at = N.at map in cc (some, at);
-            no_look = apart;
+            no_await = apart;
+            no_look = never;
           })
-      by (inr M) = absurd (apart (may_end_awaits p command h v R M))
+      by (inr (inl M)) = absurd (apart (may_end_awaits p command h v R M))
+      by (inr (inr look)) = absurd (never look)
 
 line_tells : (p : Place) (command : Command) (h : Held) (v : ℕ) → RestsAt p command h → (p ≡ place.Log Await) ⊎ (p ≢ place.Log Await)
-    → Claims p command h v ⊎ ClaimsNot p command h v → NoteTells p h.state.sizes (kind_of_task h.state.sizes (task_at p command h)) (outcome_at p command h v) v
-line_tells p command h v R (inl is) C =
+    → IsLook p ⊎ (IsLook p → ⊥) → Claims p command h v ⊎ ClaimsNot p command h v
+    → NoteTells p h.state.sizes (kind_of_task h.state.sizes (task_at p command h)) (outcome_at p command h v) v
+line_tells p command h v R (inl is) looks C =
     subst (λ q. NoteTells q h.state.sizes (kind_of_task h.state.sizes (task_at q command h)) (outcome_at q command h v) v) (sym is) (await_tells command h v)
-line_tells p command h v R (inr apart) (inl C) =
+line_tells p command h v R (inr apart) (inl look) C = look_tells p look.0 look.1 command h v R
+line_tells p command h v R (inr apart) (inr never) (inl C) =
     subst (λ (s : Option PartStep). NoteTells p h.state.sizes (kind_of_task h.state.sizes (task_by s h (note_at p command h) (touch_at command h)))
     (outcome_at p command h v) v) (sym C.step) (claim_tells p command h v R C (ends_with_claim C.map p) refl C.note)
-line_tells p command h v R (inr apart) (inr N) = other_tells p command h v R N apart
+line_tells p command h v R (inr apart) (inr never) (inr N) = other_tells p command h v R N apart never
 
 pub notes_tell_ends : (h : Held) (k : Kind) (v : ℕ) → Enabled h k → has_line h ≡ true → NoteTells (place_at h.state.place h) h.state.sizes k (outcome_of h v) v
 notes_tell_ends h k v enabled has =
@@ -249,4 +273,4 @@ notes_tell_ends h k v enabled has =
     let p : Place = place_at h.state.place h in
     let command : Command = (line_of h).command in
     subst (λ (x : Kind). NoteTells p h.state.sizes x (outcome_of h v) v) (sym N.is)
-    (line_tells p command h v N.rests.at (awaits_or_not p) (claims_or_not p command h v N.rests.at))
+    (line_tells p command h v N.rests.at (awaits_or_not p) (looks_or_not p) (claims_or_not p command h v N.rests.at))

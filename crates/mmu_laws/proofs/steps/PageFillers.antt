@@ -33,6 +33,7 @@ use Rattle.mmu_core.specs.machine.View.{View, answer_in, hand_after, put, upd, w
 use Rattle.mmu_core.proofs.words.MapTopics.{filled_topics}
 use Rattle.mmu_laws.proofs.flat.Told.{told}
 use Rattle.mmu_laws.proofs.steps.FilledPages.{Filler, FillsOne, at_fill, filled_with}
+use Rattle.spte_words.specs.Entries.{word_below}
 
 -- what a step makes where this hand is the actor's, and what it tells
 abbrev turned_as : Held → ℕ → View → View
@@ -73,7 +74,9 @@ one_word_filled : (word : ℕ → ℕ) (o : OwnedPage) → o.filled < 512 → fi
 one_word_filled word o few = λ s. Some (record {
   page = o.page;
   filled = o.filled + 1;
-  absent = absent s;
+  entry = o.entry;
+  level = o.level;
+  below = below s;
   role = role s;
 })
   where
@@ -88,8 +91,11 @@ one_word_filled word o few = λ s. Some (record {
     and_true true false = refl
     and_true false c = refl
 
-    absent : (o.absent && (nat_le 512 o.filled || word o.filled == 0)) ≡ (o.absent && (word o.filled == 0 && true))
-    absent = ap (λ (b : Bool). o.absent && (b || word o.filled == 0)) more ∙ and_true o.absent (word o.filled == 0)
+    below : (o.below && (nat_le 512 o.filled || word o.filled == word_below o.level o.entry o.filled))
+        ≡ (o.below && (word o.filled == word_below o.level o.entry o.filled && true))
+    below =
+        ap (λ (b : Bool). o.below && (b || word o.filled == word_below o.level o.entry o.filled)) more
+        ∙ and_true o.below (word o.filled == word_below o.level o.entry o.filled)
 
     role : (if o.filled == 512 then word o.filled else o.role) ≡ o.role
     role = ap (λ (b : Bool). if b then word o.filled else o.role) no_role
@@ -110,27 +116,31 @@ topics_filled z word o t few page =
 abbrev fault_at : Bool → Place
 fault_at more = place.Access (access.Fault (if more then fault.Fill else fault.Role))
 
-abbrev fault_filler : ℕ → ℕ → Op → OwnedPage → Filler
-fault_filler gfn word op o = record { command = Access gfn word op; place = fault_at; word = λ j. 0; owned = o }
+-- the words of the page: absent, or the children of the leaf in whose place it is to be linked
+abbrev fault_word : Held → ℕ → ℕ
+fault_word h j = word_below h.topics.walk.level h.topics.walk.entry j
+
+abbrev fault_filler : ℕ → ℕ → Op → OwnedPage → Held → Filler
+fault_filler gfn word op o h = record { command = Access gfn word op; place = fault_at; word = fault_word h; owned = o }
 
 fault_makes : (gfn word : ℕ) (op : Op) (v : View) (a steps : ℕ) (o : OwnedPage) (h : Held) → o.filled < 512 → o.page < h.state.sizes.pool
     → steps < 2 ^ 64 - 1
     → ◌≡◌ {A = View} (turned_as (at_fill (fault_at true) (Access gfn word op) o steps h) a v) (record {
-      words = put v.words area.Pool (pool_index o.page o.filled) 0;
-      hand = upd v.hand a (at_fill (fault_at (nat_lt (o.filled + 1) 512)) (Access gfn word op) (filled_with (λ j. 0) 1 o) (steps + 1) h);
+      words = put v.words area.Pool (pool_index o.page o.filled) (fault_word h o.filled);
+      hand = upd v.hand a (at_fill (fault_at (nat_lt (o.filled + 1) 512)) (Access gfn word op) (filled_with (fault_word h) 1 o) (steps + 1) h);
     })
 unfolding flushed topics_after
 fault_makes gfn word op v a steps o h few page count = λ s. record {
-  words = put v.words area.Pool (pool_index o.page o.filled) 0;
+  words = put v.words area.Pool (pool_index o.page o.filled) (fault_word h o.filled);
   hand = upd v.hand a (counted_at (fault_at (nat_lt (o.filled + 1) 512)) (Access gfn word op)
-      (topics_filled h.state.sizes (λ j. 0) o h.topics few page s) (one_step_more steps count s) h);
+      (topics_filled h.state.sizes (fault_word h) o h.topics few page s) (one_step_more steps count s) h);
 }
 
 fault_tells : (gfn word : ℕ) (op : Op) (o : OwnedPage) (steps : ℕ) (h : Held) (words : Area → ℕ → ℕ)
     → tells_as (at_fill (fault_at true) (Access gfn word op) o steps h) words ≡ []
 fault_tells gfn word op o steps h words = refl
 
-fault_fills : (gfn word : ℕ) (op : Op) (o : OwnedPage) (h : Held) → FillsOne (fault_filler gfn word op o) h
+fault_fills : (gfn word : ℕ) (op : Op) (o : OwnedPage) (h : Held) → FillsOne (fault_filler gfn word op o h) h
 fault_fills gfn word op o h = record {
   makes = λ v a steps o is few page count. ap (λ held. turned_as held a v) is ∙ fault_makes gfn word op v a steps o h few page count;
   tells_none = λ v a steps o is. ap (λ held. tells_as held v.words) is ∙ fault_tells gfn word op o steps h v.words;
@@ -172,7 +182,7 @@ set_fills command o h = record {
 
 -- how a line at this place with this command fills this page, where it does
 abbrev pub filler_at : Place → Command → Option OwnedPage → Held → Option Filler
-filler_at (place.Access (access.Fault fault.Fill)) (Access gfn word op) (Some o) h = Some (fault_filler gfn word op o)
+filler_at (place.Access (access.Fault fault.Fill)) (Access gfn word op) (Some o) h = Some (fault_filler gfn word op o h)
 filler_at (place.SlotChange slot_change.Fill) command (Some o) h = Some (set_filler command o h)
 filler_at _ _ _ _ = None
 

@@ -16,7 +16,7 @@ use Rattle.part_steps.specs.declared.part_step.PartStep.{PartStep}
 use Rattle.part_steps.specs.declared.part_step.PartStep.TheVariants as part
 use Rattle.part_steps.specs.declared.task.Task.{Task}
 use Rattle.part_steps.specs.InvalidationHoldings.{knows_count}
-use Rattle.part_steps.specs.PartHoldings.{MayPublish}
+use Rattle.part_steps.specs.SetHoldings.{MayPublish}
 use Rattle.part_steps.specs.PartSteps.{needs_line}
 use Rattle.part_steps.specs.PartTasks.{own_index, page_owned, part_task}
 use Rattle.part_steps.specs.StayTopics.{has_lock}

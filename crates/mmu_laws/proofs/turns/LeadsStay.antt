@@ -9,13 +9,14 @@ use Rattle.spte_words.specs.declared.area.Area.TheVariants as area
 use Rattle.spte_words.specs.declared.spte_kind.SpteKind.{SpteKind}
 use Rattle.spte_words.specs.declared.spte_kind.SpteKind.TheVariants as entry_kind
 use Rattle.spte_words.specs.Areas.{pool_index}
-use Rattle.spte_words.specs.Entries.{absent_word, kind_of, can_write, write_bit}
+use Rattle.spte_words.specs.Entries.{absent_word, child_word, kind_of, can_write, write_bit}
+use Rattle.spte_words.proofs.ChildEntries.{child_can_write, child_kind}
 use Rattle.spte_words.proofs.ReadsEntries.{kind_of_absent}
 use Rattle.mmu_core.specs.alone.FaultAlone.{EndsHere, LeadsTo, LinksOn}
 use Rattle.part_steps.specs.PartTasks.{all_but, entry_index}
 use Rattle.part_steps.specs.WalkTopics.{linked_page}
 use Rattle.mmu_core.specs.invariant.TreePart.{Position, TreePart, at, Use, stands}
-use Rattle.mmu_laws.proofs.leaves.LeadsDown.{below_stands}
+use Rattle.mmu_laws.proofs.leaves.LeadsDown.{below_stands, leads_at}
 use Rattle.part_steps.specs.declared.task.Task.{Task}
 
 -- The step zaps a leaf in an entry of the table that stands there, and leaves the entry absent.
@@ -56,11 +57,21 @@ pub record IsLeafStill (write : Bool) (level was is : ℕ) : Type 0 where
   pub is_leaf : kind_of level is ≡ entry_kind.Leaf
   pub writes : write ≡ true → can_write was ≡ true → can_write is ≡ true
 
--- What was in an entry of a table is there still, or it was absent, or the step takes it away, or both are leaves; and the root is the same.
+-- A large leaf was there, and now a link to a table of its children is.
+pub record IsSplit (level was is : ℕ) (after : ℕ → ℕ) : Type 0 where
+  pub upper : 2 ≤ level
+  pub was_leaf : kind_of level was ≡ entry_kind.Leaf
+  pub page : ℕ
+  pub links : linked_page (kind_of level is) ≡ Some page
+  pub children : (i : ℕ) → i < 512 → after (pool_index page i) ≡ child_word level was i
+
+-- What was in an entry of a table is there still, or it was absent, or the step takes it away, or both are leaves, or the leaf was split; and the root is the
+-- same.
 abbrev pub EntryStays : Bool → Task → (ℕ → ℕ) → (ℕ → ℕ) → ℕ → Position → ℕ → Type 0
 EntryStays write task before after k p j =
     (after (pool_index k j) ≡ before (pool_index k j)) ⊎ (before (pool_index k j) ≡ absent_word) ⊎ IsTakenAway write task before k p j
     ⊎ IsLeafStill write p.level (before (pool_index k j)) (after (pool_index k j))
+    ⊎ IsSplit p.level (before (pool_index k j)) (after (pool_index k j)) after
 
 abbrev pub EntriesStay : Bool → Task → (ℕ → Option Position) → (ℕ → ℕ) → (ℕ → ℕ) → Type 0
 EntriesStay write task stands before after =
@@ -86,11 +97,12 @@ module _ {pages root : ℕ} {role before : ℕ → ℕ} {up : ℕ → Use} {spot
   abbrev Takes : Type 0
   Takes = TakesEntry write task (stands up spot) before gfn
 
-  -- Links lead to a leaf of the same level that allows writes if the one before did, where the access writes.
+  -- Links lead to a leaf that allows writes if the one before did, where the access writes.
   pub record LeadsOn (level page : ℕ) : Type 0 where
+    pub at_level : ℕ
     pub leaf : ℕ
-    pub leads : LeadsTo after level page gfn low leaf
-    pub is_leaf : kind_of low leaf ≡ entry_kind.Leaf
+    pub leads : LeadsTo after level page gfn at_level leaf
+    pub is_leaf : kind_of at_level leaf ≡ entry_kind.Leaf
     pub writes : write ≡ true → can_write entry ≡ true → can_write leaf ≡ true
 
   -- where they end
@@ -103,6 +115,7 @@ module _ {pages root : ℕ} {role before : ℕ → ℕ} {up : ℕ → Use} {spot
 
       by : EntryStays write task before after page (at (suc level) prefix) j → LeadsOn (suc level) page ⊎ Takes
       by (inl same) = inl (record {
+        at_level = low;
         leaf = entry;
         leads = inl (record { here = E.here; is = same ∙ E.is; no_link = E.no_link });
         is_leaf = leaf;
@@ -111,12 +124,28 @@ module _ {pages root : ℕ} {role before : ℕ → ℕ} {up : ℕ → Use} {spot
       by (inr (inl was)) =
           let absent : kind_of low entry ≡ entry_kind.Absent = ap (kind_of low) (sym E.is ∙ was) ∙ kind_of_absent low in absurd (cc (absent, leaf))
       by (inr (inr (inl Z))) = inr (record { level = suc level; prefix = prefix; page = page; at_page = at_page; takes = Z })
-      by (inr (inr (inr K))) = inl (record {
+      by (inr (inr (inr (inl K)))) = inl (record {
+        at_level = low;
         leaf = after (pool_index page j);
         leads = inl (record { here = E.here; is = refl; no_link = ap (λ (k : SpteKind). linked_page k) K.is_leaf });
         is_leaf = ap (λ n. kind_of n (after (pool_index page j))) E.here ∙ K.is_leaf;
         writes = λ is w. K.writes is (ap can_write E.is ∙ w);
       })
+      by (inr (inr (inr (inr K)))) =
+          let upper = K.upper in
+          let to : suc level ≤ 4 = (T.there page (at (suc level) prefix) at_page).2 in
+          let child : after (pool_index K.page (entry_index gfn level)) ≡ child_word (suc level) (before (pool_index page j)) (entry_index gfn level) =
+          K.children (entry_index gfn level) (omega arith) in
+          let kind : kind_of level (child_word (suc level) (before (pool_index page j)) (entry_index gfn level)) ≡ entry_kind.Leaf =
+          ap (λ l. kind_of l (child_word (suc level) (before (pool_index page j)) (entry_index gfn level))) (omega arith)
+          ∙ child_kind (suc level) (before (pool_index page j)) (entry_index gfn level) upper to in
+          inl (record {
+            at_level = level;
+            leaf = child_word (suc level) (before (pool_index page j)) (entry_index gfn level);
+            leads = inr (K.page, K.links, leads_at after level K.page gfn _ (omega (arith, upper)) child kind);
+            is_leaf = kind;
+            writes = λ is w. child_can_write (suc level) (before (pool_index page j)) (entry_index gfn level) ∙ ap can_write E.is ∙ w;
+          })
 
   -- a link on the way
   link_stays : (level prefix page below : ℕ) → stands up spot page ≡ Some (at level prefix) → LinksOn before level page gfn below
@@ -133,7 +162,10 @@ module _ {pages root : ℕ} {role before : ℕ → ℕ} {up : ℕ → Use} {spot
           ∙ ap (λ (k : SpteKind). linked_page k) (kind_of_absent level) in
           absurd (cc (none, link))
       by (inr (inr (inl Z))) = inr (record { level = level; prefix = prefix; page = page; at_page = at_page; takes = Z })
-      by (inr (inr (inr K))) =
+      by (inr (inr (inr (inl K)))) =
+          let none : linked_page (kind_of level (before (pool_index page j))) ≡ None = ap (λ (k : SpteKind). linked_page k) K.was_leaf in
+          absurd (cc (none, link))
+      by (inr (inr (inr (inr K)))) =
           let none : linked_page (kind_of level (before (pool_index page j))) ≡ None = ap (λ (k : SpteKind). linked_page k) K.was_leaf in
           absurd (cc (none, link))
 
@@ -149,6 +181,6 @@ module _ {pages root : ℕ} {role before : ℕ → ℕ} {up : ℕ → Use} {spot
     where
       both : LinksOn after (suc level) page gfn down.0 ⊎ Takes → LeadsOn level down.0 ⊎ Takes → LeadsOn (suc level) page ⊎ Takes
       both (inl link) (inl below) =
-          inl (record { leaf = below.leaf; leads = inr (down.0, link, below.leads); is_leaf = below.is_leaf; writes = below.writes })
+          inl (record { at_level = below.at_level; leaf = below.leaf; leads = inr (down.0, link, below.leads); is_leaf = below.is_leaf; writes = below.writes })
       both (inl link) (inr Z) = inr Z
       both (inr Z) more = inr Z

@@ -54,7 +54,7 @@ HeldLeavesAgree =
     → LeadsTo (word_in z w area.Pool) (hand_in mmu w actor).topics.walk.level (table_page (hand_in mmu w actor).topics.walk) gfn at entry
     → kind_of at entry ≡ entry_kind.Leaf → LeafAgrees (word_in z w area.Slots 0) (word_in z w area.Pool) (word_in z w area.Host) at gfn entry
 
--- Each leaf to which links lead is of the lowest level: no step puts a larger one.
+-- Each leaf to which links lead is of the lowest level: no line makes a large host page.
 abbrev pub LeavesAreLowest : Type 0
 LeavesAreLowest =
     (z : Sizes) (w : World Held) (gfn at entry : ℕ) → IsSound z w → gfn < 2 ^ 36

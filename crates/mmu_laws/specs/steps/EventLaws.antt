@@ -23,7 +23,7 @@ use Rattle.spte_words.specs.declared.area.Area.{Area}
 use Rattle.spte_words.specs.declared.area.Area.TheVariants as area
 use Rattle.spte_words.specs.Areas.{content_index, place}
 use Rattle.part_steps.specs.ControlBits.{has_to_flush}
-use Rattle.part_steps.specs.PartHoldings.{MayGiveOld}
+use Rattle.part_steps.specs.SetHoldings.{MayGiveOld}
 use Rattle.part_steps.specs.Tasks.{map_of}
 use Rattle.mmu_core.specs.declared.outcome.Outcome.{Outcome}
 use Rattle.mmu_core.specs.declared.outcome.Outcome.TheVariants.{Ends}

@@ -1,13 +1,10 @@
 -- What the numbers of a step tell: of which area its word is, whether its line ends with it, and what it leaves of what is cached.
-use Rattle.std.specs.Prelude.{◌≡◌, ◌<◌, ◌≤◌, ◌+◌, ◌⊎◌, ℕ, Bool, true, false, [], ◌==◌, if◌then◌else◌}
+use Rattle.std.specs.Prelude.{◌≡◌, ◌<◌, ◌⊎◌, ℕ, Bool, true, false, []}
 use Rattle.circular_buffer.specs.Buffer.{Buffer}
 use Rattle.core_views.specs.declared.cache.Translation.{Translation}
 use Rattle.core_views.specs.declared.kind.Kind.{Kind}
 use Rattle.core_views.specs.declared.kind.StepKind.{StepKind}
 use Rattle.core_views.specs.declared.kind.StepKind.TheVariants as kind
-use Rattle.core_views.specs.declared.place.LogPlace.TheVariants.{Await}
-use Rattle.core_views.specs.declared.place.Place.{Place}
-use Rattle.core_views.specs.declared.place.Place.TheVariants as place_of
 use Rattle.core_views.specs.declared.sizes.Sizes.{Sizes}
 use Rattle.core_views.specs.Held.{Held}
 use Rattle.core_views.specs.Kinds.{kind_named}
@@ -16,17 +13,10 @@ use Rattle.spte_words.specs.declared.area.Area.TheVariants as area
 use Rattle.spte_words.specs.Areas.{place, size_of}
 use Rattle.spte_words.specs.HostWords.{host_level, with_frame, with_presence, with_writes}
 use Rattle.mmu_core.specs.forms.host.HostSteps.{entry_of}
-use Rattle.mmu_core.specs.declared.outcome.Outcome.{Outcome}
-use Rattle.mmu_core.specs.forms.access.AccessSteps.{ends_with}
 use Rattle.mmu_core.specs.forms.access.Cached.{asks_flush, with_leaf}
-use Rattle.mmu_core.specs.declared.claim.FreeMap.{FreeMap}
-use Rattle.mmu_core.specs.orders.ClaimSteps.{map_area, map_words}
-use Rattle.mmu_core.specs.lines.ScanPlaces.{ends_with_claim}
 use Rattle.mmu_core.specs.machine.Enabled.{Enabled}
-use Rattle.mmu_core.specs.machine.Steps.{has_line, next, place_at}
-use Rattle.part_steps.specs.ControlBits.{has_to_flush}
+use Rattle.mmu_core.specs.machine.Steps.{next}
 use Rattle.part_steps.specs.Tasks.{map_of}
-use Rattle.mmu_core.specs.machine.Turns.{outcome_of}
 
 -- The words that are loaded as control words: those of the machine's control, and those of the maps of what is free.
 abbrev pub IsControl : Area → Type 0
@@ -98,31 +88,6 @@ pub record IsOnItsArea (z : Sizes) (k : Kind) : Type 0 where
 -- Each step that a hand allows is so, a line's or a part's.
 abbrev pub StepsAreOnTheirAreas : Type 0
 StepsAreOnTheirAreas = (h : Held) (k : Kind) → Enabled h k → IsOnItsArea h.state.sizes k
-
--- The step of this place loads the last word of the map of what is free, for a claim with which its line may end.
-pub record LoadsLastWord (p : Place) (z : Sizes) (k : Kind) : Type 0 where
-  pub map : FreeMap
-  pub ends : ends_with_claim map p ≡ true
-  pub loads : kind_named k.code ≡ kind.Control
-  pub last : k.word + 1 ≡ place (map_of z) (map_area map) (map_words map z)
-
--- The step of this place looks at the last virtual processor, for a line that takes pages out of a dirty log and awaits the flush of each.
-pub record AwaitsLast (p : Place) (z : Sizes) (k : Kind) : Type 0 where
-  pub at : p ≡ place_of.Log Await
-  pub awaits : kind_named k.code ≡ kind.Await
-  pub last : place (map_of z) area.State z.vcpus ≤ k.word + 1
-
--- The note of a step that found v is 1 where its line is answered with it, and 0 where the line goes on. But that of the load of the last
--- word of a map is 1, and the line is answered with this load exactly where it found 0; and that of the look at the last virtual processor is 1, and the line
--- is answered with it exactly where this one has no flush to make.
-pub record NoteTells (p : Place) (z : Sizes) (k : Kind) (o : Outcome) (v : ℕ) : Type 0 where
-  pub tells : (k.note ≡ ends_with o) ⊎ LoadsLastWord p z k ⊎ AwaitsLast p z k
-  pub last : LoadsLastWord p z k → (k.note ≡ 1) × (ends_with o ≡ (if v == 0 then 1 else 0))
-  pub awaits : AwaitsLast p z k → (k.note ≡ 1) × (ends_with o ≡ (if has_to_flush v then 0 else 1))
-
--- So are the notes of all lines' steps, whatever they find.
-abbrev pub NotesTellEnds : Type 0
-NotesTellEnds = (h : Held) (k : Kind) (v : ℕ) → Enabled h k → has_line h ≡ true → NoteTells (place_at h.state.place h) h.state.sizes k (outcome_of h v) v
 
 -- Who enters the guest with a flush asked for has nothing cached after that step.
 abbrev pub EnteringFlushes : Type 0

@@ -29,7 +29,9 @@ use Rattle.mmu_core.specs.declared.share.ShareNext.{ShareNext}
 use Rattle.mmu_core.specs.declared.share.ShareNext.TheVariants as shares
 use Rattle.mmu_core.specs.forms.access.FaultKnows.{FaultKnows}
 use Rattle.mmu_core.specs.forms.access.FaultLeft.{check_left, end_left, entering_left, fault_left, next_left, table_left, walk_left}
-use Rattle.mmu_core.specs.forms.access.FaultSteps.{after_claim, after_share, allows_access, check_next, entry_word, exchange_lost}
+use Rattle.part_steps.specs.RunHoldings.{maps_run}
+use Rattle.mmu_core.proofs.forms.access.RunMapped.{maps_upper}
+use Rattle.mmu_core.specs.forms.access.FaultSteps.{end_next, after_claim, after_share, allows_access, check_next, exchange_lost}
 use Rattle.mmu_core.specs.forms.access.FaultSteps.{fast_walk_next, fault_next, fault_part}
 use Rattle.mmu_core.specs.forms.access.FaultSteps.{found_next, over_next, put_next}
 use Rattle.mmu_core.specs.forms.access.FaultSteps.{Pages, host_word_at, share_next, share_part, snapshot_taken, walk_next, claim_left, share_left}
@@ -110,28 +112,30 @@ root_falls false z = omega arith
 five_left : (z : Sizes) (level : ℕ) → 5 ≤ walk_left z level
 five_left z level = omega arith
 
-leaf_falls : (lowest allows write : Bool) (z : Sizes) (word v level : ℕ) (u : Topics)
-    → fault_left (if lowest then (if allows then Unshare Installed else Leaf write) else Unshare (Retry false (Entry word v v))) z u < walk_left z level
-leaf_falls true true write z word v level u = let five = five_left z level in omega (arith, five)
-leaf_falls _ _ write z word v level u = let five = five_left z level in omega (arith, five)
+-- where no link is: a leaf is put, or above the lowest level a table linked
+entry_falls : (maps : Bool) (gfn : ℕ) (write : Bool) (z : Sizes) (t u : Topics) → maps_run t.walk.level gfn t ≡ maps → u.walk.level ≡ t.walk.level
+    → t.walk.level ≤ 4 → fault_left (if maps then Leaf write else Claim false) z u < walk_left z t.walk.level
+entry_falls true gfn write z t u is same most = let five = five_left z t.walk.level in omega (arith, five)
+entry_falls false gfn write z t u is same most =
+    let upper : 2 ≤ t.walk.level = maps_upper gfn t is in
+    let below = table_below z t.walk.level upper most in
+    let left = ap (λ level. walk_left z (level - 1)) same in
+    omega (arith, below, left)
 
-none_falls : (lowest write : Bool) (z : Sizes) (u : Topics) → (u.walk.level == 1) ≡ lowest → 1 ≤ u.walk.level → u.walk.level ≤ 4
-    → fault_left (if lowest then Leaf write else Claim false) z u < walk_left z u.walk.level
-none_falls true write z u is from most = let five = five_left z u.walk.level in omega (arith, five)
-none_falls false write z u is from most =
-    let upper : 2 ≤ u.walk.level = grind (arith, nat_tests) in
-    let below = table_below z u.walk.level upper most in
-    omega (arith, below)
+leaf_falls : (allows : Bool) (gfn : ℕ) (write : Bool) (z : Sizes) (t u : Topics) → u.walk.level ≡ t.walk.level → t.walk.level ≤ 4
+    → fault_left (if allows then Unshare Installed else end_next gfn write t) z u < walk_left z t.walk.level
+leaf_falls true gfn write z t u same most = let five = five_left z t.walk.level in omega (arith, five)
+leaf_falls false gfn write z t u same most = entry_falls (maps_run t.walk.level gfn t) gfn write z t u refl same most
 
 walk_falls : (k : SpteKind) (z : Sizes) (gfn : ℕ) (write : Bool) (t : Topics) (v : ℕ) → kind_of t.walk.level v ≡ k → 1 ≤ t.walk.level → t.walk.level ≤ 4
-    → fault_left (walk_next k z gfn write t.walk v) z (record t { walk = gone_down (linked_page k) t.walk (entry_index gfn t.walk.level) v })
+    → fault_left (walk_next k z gfn write t v) z (record t { walk = gone_down (linked_page k) t.walk (entry_index gfn t.walk.level) v })
     < walk_left z t.walk.level
 walk_falls (entry_kind.Table page) z gfn write t v is from most =
     let below = table_below z t.walk.level (above_lowest t.walk.level v page from is) most in omega (arith, below)
 walk_falls entry_kind.Leaf z gfn write t v is from most =
-    leaf_falls (t.walk.level == 1) (allows_access write v) write z (entry_word z gfn t.walk) v t.walk.level _
+    leaf_falls (allows_access write v) gfn write z t (record t { walk = gone_down None t.walk (entry_index gfn t.walk.level) v }) refl most
 walk_falls entry_kind.Absent z gfn write t v is from most =
-    none_falls (t.walk.level == 1) write z (record t { walk = gone_down None t.walk (entry_index gfn t.walk.level) v }) refl from most
+    entry_falls (maps_run t.walk.level gfn t) gfn write z t (record t { walk = gone_down None t.walk (entry_index gfn t.walk.level) v }) refl refl most
 walk_falls entry_kind.Frozen z gfn write t v is from most = let five = five_left z t.walk.level in omega (arith, five)
 
 -- the claim
@@ -231,7 +235,7 @@ fault_falls (Claim begun) h gfn v write small R K goes =
     (claim_falls h.state.sizes Pages begun h.topics v _ _ _ M goes (word_there Pages begun h.state.sizes h.topics.claim R.sizes K.3))
 fault_falls Fill h gfn v write small R K goes = fill_falls (nat_lt (words_filled h.topics.owned + 1) 512) h.state.sizes h.topics v K.2
 fault_falls Link h gfn v write small R K goes =
-    let O = table_owned (h.topics.walk.level - 1) h.topics K.2 in
+    let O = table_owned h.topics K.2 in
     let low : O.owned.page < 2 ^ 32 = let page = R.page O.owned O.is in let most = R.sizes.pool.1 in omega (arith, page, most) in
     link_falls (v == h.topics.walk.entry) h.state.sizes h.topics gfn v O.owned K.1.upper O.is low
 fault_falls (Leaf writes) h gfn v write small R K goes =

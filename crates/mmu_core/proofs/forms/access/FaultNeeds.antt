@@ -11,12 +11,12 @@ use Rattle.core_views.specs.declared.topics.HostLook.{HostLook}
 use Rattle.core_views.specs.declared.topics.OwnedPage.{OwnedPage}
 use Rattle.core_views.specs.declared.topics.Topics.{Topics}
 use Rattle.core_views.specs.Held.{Held}
-use Rattle.mmu_core.specs.forms.access.FaultKnows.{Entering, FaultKnows}
+use Rattle.spte_words.proofs.ChildEntries.{below_fits}
+use Rattle.mmu_core.specs.forms.access.FaultKnows.{Entering, FaultKnows, SawUpperEnd}
 use Rattle.mmu_core.specs.forms.access.FaultSteps.{Pages, check_part, fault_part}
 use Rattle.part_steps.specs.PartBounds.{PartRests}
-use Rattle.part_steps.specs.PartHoldings.{FoundSlot, MayEnter, SawEntry}
+use Rattle.part_steps.specs.PartHoldings.{FoundSlot, MayEnter, MayLink, SawEntry}
 use Rattle.part_steps.specs.PartSteps.{PartNeeds, counts}
-use Rattle.part_steps.specs.RunHoldings.{MapsRun}
 use Rattle.part_steps.specs.PartTasks.{page_owned, words_filled, number_or_none}
 use Rattle.part_steps.specs.SlotWords.{page_of}
 use Rattle.mmu_core.proofs.orders.ClaimMade.{claim_needs}
@@ -47,13 +47,16 @@ may_enter gfn write t E S = record {
   owes_none = E.sharing.owes_none;
 }
 
--- At the lowest level a leaf is over one page.
-maps_one : (gfn : ℕ) (t : Topics) → t.walk.level ≡ 1 → MapsRun gfn t
-maps_one gfn t lowest = record {
-  most = omega (arith, lowest);
-  run = λ upper. absurd (omega (arith, upper, lowest));
-  large = λ upper. absurd (omega (arith, upper, lowest));
-  no_log = λ upper. absurd (omega (arith, upper, lowest));
+-- In the place of an absent entry, or of a large leaf, a table may be linked.
+may_link : (gfn : ℕ) (write : Bool) (t : Topics) → Entering gfn write t → SawUpperEnd gfn t → MayLink gfn t
+may_link gfn write t E S = record {
+  shares = E.sharing.shares;
+  section = E.sharing.section;
+  saw = S.saw;
+  owes_none = E.sharing.owes_none;
+  upper = S.upper;
+  takes = S.takes;
+  enters = λ none. may_enter gfn write t E S.saw;
 }
 
 -- A page that is owned is one of the pool; so is one that is filled but for its role.
@@ -83,12 +86,12 @@ fault_needs (Check at) h gfn write small R K = check_needs at h
 fault_needs (Walk true) h gfn write small R K = (K.2 refl, no_sweep h.topics K.0.sharing.section refl, no_anew h.topics K.0.sharing.section refl)
 fault_needs (Walk false) h gfn write small R K = tt
 fault_needs (Claim begun) h gfn write small R K = claim_needs Pages begun h R.sizes K.1 K.3
-fault_needs Fill h gfn write small R K = (K.2, omega arith, owned_below h R K.2.0)
+fault_needs Fill h gfn write small R K =
+    (K.2, below_fits h.topics.walk.level h.topics.walk.entry (words_filled h.topics.owned) R.level K.2.1, owned_below h R K.2.0)
 fault_needs Role h gfn write small R K = (K.2, omega (arith, R.level), owned_below h R (full_owns h.topics.owned K.2))
-fault_needs Link h gfn write small R K = (may_enter gfn write h.topics K.0 K.1.saw, K.1.upper, K.1.absent, K.2)
+fault_needs Link h gfn write small R K = (may_link gfn write h.topics K.0 K.1, K.2)
 fault_needs (Give e) h gfn write small R K = (K.2, ap is_alone K.1)
-fault_needs (Leaf writes) h gfn write small R K =
-    (may_enter gfn write h.topics K.0 K.2, maps_one gfn h.topics K.3, K.5, λ page upper e. let lowest = K.3 in omega (arith, upper, lowest))
+fault_needs (Leaf writes) h gfn write small R K = (may_enter gfn write h.topics K.0 K.2, K.3, K.5, K.6)
 fault_needs (Unshare e) h gfn write small R K = ap (λ (x : Hold). counts x) K.1
 fault_needs (End e) h gfn write small R K = (K.0.section, K.0.owes_none)
 fault_needs FastBegin h gfn write small R K = K.outside

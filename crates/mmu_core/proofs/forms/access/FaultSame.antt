@@ -16,10 +16,10 @@ use Rattle.core_views.specs.Slots.{contains}
 use Rattle.spte_words.specs.Areas.{words_of_bits}
 use Rattle.spte_words.specs.Entries.{kind_of}
 use Rattle.spte_words.specs.HostWords.{host_present}
-use Rattle.mmu_core.specs.forms.access.FaultKnows.{FaultEndKnows, Entering, FoundNone, FoundNoPage, IsInTheWay, LookedFor, SawAbsentEntry, Sharing, WithoutLock}
+use Rattle.mmu_core.specs.forms.access.FaultKnows.{FaultEndKnows, Entering, FoundNone, FoundNoPage, IsInTheWay, LookedFor, SawUpperEnd, Sharing, WithoutLock}
 use Rattle.mmu_core.specs.forms.access.FaultKnows.{HasCause, HasEntry, InSection, IsFixed, IsLostFix, Retries, SawNotFast, forbids_more}
 use Rattle.mmu_core.specs.forms.access.FaultSteps.{allows_access, host_word_at}
-use Rattle.part_steps.specs.PartHoldings.{FoundSlot, IsFresh, LookedUp, SawEntry}
+use Rattle.part_steps.specs.PartHoldings.{takes_table, FoundSlot, IsFresh, LookedUp, SawEntry}
 use Rattle.part_steps.specs.PartTasks.{word_looked}
 use Rattle.part_steps.specs.SlotWords.{page_of}
 use Rattle.part_steps.specs.StayTopics.{unchecked}
@@ -84,11 +84,11 @@ same_entering gfn write t u stay hold search host n owed E = record {
   fresh = subst (IsFresh gfn) (sym n) E.fresh;
 }
 
-pub same_none : (gfn : ℕ) (t u : Topics) → u.walk ≡ t.walk → SawAbsentEntry gfn t → SawAbsentEntry gfn u
-same_none gfn t u walk S = record {
+pub same_end : (gfn : ℕ) (t u : Topics) → u.walk ≡ t.walk → SawUpperEnd gfn t → SawUpperEnd gfn u
+same_end gfn t u walk S = record {
   saw = subst (SawEntry gfn) (sym walk) S.saw;
   upper = subst (λ (w : TableWalk). 2 ≤ w.level) (sym walk) S.upper;
-  absent = ap (λ (w : TableWalk). kind_of w.level w.entry) walk ∙ S.absent;
+  takes = ap (λ (w : TableWalk). takes_table (kind_of w.level w.entry)) walk ∙ S.takes;
 }
 
 same_none_found : (gfn : ℕ) (t u : Topics) → u.search ≡ t.search → FoundNone gfn t → FoundNone gfn u
@@ -103,8 +103,7 @@ same_page gfn write t u search (inr N) = inr (same_none_found gfn t u search N)
 pub same_entry : (gfn : ℕ) (write : Bool) (t u : Topics) → u.walk ≡ t.walk → HasEntry gfn write t → HasEntry gfn write u
 same_entry gfn write t u walk K = record {
   saw = subst (SawEntry gfn) (sym walk) K.saw;
-  lowest = ap (λ (w : TableWalk). w.level) walk ∙ K.lowest;
-  leaf = ap (λ (w : TableWalk). kind_of 1 w.entry) walk ∙ K.leaf;
+  leaf = ap (λ (w : TableWalk). kind_of w.level w.entry) walk ∙ K.leaf;
   allows = ap (λ (w : TableWalk). allows_access write w.entry) walk ∙ K.allows;
 }
 
@@ -142,7 +141,7 @@ ends_same (NotFast word) z gfn write t u walk search host claim n K = same_not_f
 ends_same (Fixed marked) z gfn write t u walk search host claim n K = record {
   found = same_found gfn t u search K.found;
   entry = same_entry gfn write t u walk K.entry;
-  fixed = subst (λ (w : TableWalk). IsFixed w.entry) (sym walk) K.fixed;
+  fixed = subst (λ (w : TableWalk). IsFixed w.level w.entry) (sym walk) K.fixed;
   marks = K.marks ∙ ap (λ (s : SlotSearch). s.logged) (sym search);
 }
 ends_same (Retry fast cause) z gfn write t u walk search host claim n K = record {

@@ -19,8 +19,9 @@ use Rattle.spte_words.specs.Entries.{kind_of}
 use Rattle.spte_words.specs.HostWords.{host_allows_write, host_present}
 use Rattle.mmu_core.specs.declared.share.ShareNext.{ShareNext}
 use Rattle.mmu_core.specs.declared.share.ShareNext.TheVariants as shares
+use Rattle.part_steps.specs.RunHoldings.{maps_run}
 use Rattle.mmu_core.specs.forms.access.FaultSteps.{after_share, allows_access, check_next, check_part, fault_next, fault_part, find_next, found_next}
-use Rattle.mmu_core.specs.forms.access.FaultSteps.{is_last_word, share_next, share_part, snapshot_taken, walk_next}
+use Rattle.mmu_core.specs.forms.access.FaultSteps.{end_next, is_last_word, share_next, share_part, snapshot_taken, walk_next}
 use Rattle.mmu_core.specs.forms.access.FaultSteps.{search_next, fast_find_next, fast_walk_next, over_next, put_next}
 use Rattle.mmu_core.specs.orders.ClaimSteps.{FreeMap, Pages, Frames, claim_part, load_part, map_word, tries_one, try_part}
 use Rattle.mmu_core.specs.lines.ScanPlaces.{BegunNext, HasBegun, IsStarvedEnd}
@@ -72,12 +73,14 @@ not_by_check stage.End gfn t v = either_place NotBegun (nat_le t.invalidations.s
     (λ e. e)
 not_by_check stage.Seq gfn t v = either_place NotBegun (v == snapshot_taken t.invalidations.snapshot) (Walk false) (Unshare (Retry false _)) (λ e. e) (λ e. e)
 
-not_by_walk : (k : SpteKind) (z : Sizes) (gfn : ℕ) (write : Bool) (walk : TableWalk) (v : ℕ) → NotBegun (walk_next k z gfn write walk v)
-not_by_walk entry_kind.Leaf z gfn write walk v =
-    either_place NotBegun (walk.level == 1) (if allows_access write v then Unshare Installed else Leaf write) (Unshare (Retry false _))
-    (either_place NotBegun (allows_access write v) (Unshare Installed) (Leaf write) (λ e. e) (λ e. e)) (λ e. e)
-not_by_walk entry_kind.Absent z gfn write walk v = either_place NotBegun (walk.level == 1) (Leaf write) (Claim false) (λ e. e) (λ e. absurd (cc e))
-not_by_walk _ z gfn write walk v = λ e. e
+not_by_end : (gfn : ℕ) (write : Bool) (t : Topics) → NotBegun (end_next gfn write t)
+not_by_end gfn write t = either_place NotBegun (maps_run t.walk.level gfn t) (Leaf write) (Claim false) (λ e. e) (λ e. absurd (cc e))
+
+not_by_walk : (k : SpteKind) (z : Sizes) (gfn : ℕ) (write : Bool) (t : Topics) (v : ℕ) → NotBegun (walk_next k z gfn write t v)
+not_by_walk entry_kind.Leaf z gfn write t v =
+    either_place NotBegun (allows_access write v) (Unshare Installed) (end_next gfn write t) (λ e. e) (not_by_end gfn write t)
+not_by_walk entry_kind.Absent z gfn write t v = not_by_end gfn write t
+not_by_walk _ z gfn write t v = λ e. e
 
 not_by_fast_walk : (k : SpteKind) (walk : TableWalk) (v : ℕ) → NotBegun (fast_walk_next k walk v)
 not_by_fast_walk entry_kind.Leaf walk v = either_place NotBegun ((walk.level == 1) && is_fixable v) Fix (End (NotFast v)) (λ e. e) (λ e. e)
@@ -109,8 +112,8 @@ fault_claims Bring z gfn write t v K e = either_place NotBegun (v == word_looked
 fault_claims Share z gfn write t v K e = not_by_share (share_next t.hold v) e
 fault_claims (Check at) z gfn write t v K e = not_by_check at gfn t v e
 fault_claims (Walk rooted) z gfn write t v K e =
-    either_place NotBegun rooted (walk_next (kind_of t.walk.level v) z gfn write t.walk v) (Walk true)
-    (not_by_walk (kind_of t.walk.level v) z gfn write t.walk v) (λ x. x) e
+    either_place NotBegun rooted (walk_next (kind_of t.walk.level v) z gfn write t v) (Walk true)
+    (not_by_walk (kind_of t.walk.level v) z gfn write t v) (λ x. x) e
 fault_claims (Claim begun) z gfn write t v K e = tt
 fault_claims Fill z gfn write t v K e = either_place NotBegun (nat_lt (words_filled t.owned + 1) 512) Fill Role (λ x. x) (λ x. x) e
 fault_claims Link z gfn write t v K e = either_place NotBegun (v == t.walk.entry) (Walk true) (Give (Retry false _)) (λ x. x) (λ x. x) e

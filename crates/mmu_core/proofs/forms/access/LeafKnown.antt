@@ -1,102 +1,27 @@
 -- What a fault knows after it has put a leaf, or allowed writes in one, and after it has marked the page.
-use Rattle.std.proofs.Common.{◌≡◌, ◌≢◌, inl, ◌+◌, ◌-◌, ◌*◌, ◌/◌, ◌%◌, ◌≤◌, ℕ, refl, sym, subst, ap, ◌∙◌, arith}
-use Rattle.std.specs.Prelude.{Bool, true, false, ◌==◌, ◌&&◌, ◌||◌, not, if◌then◌else◌, Option, Some, None}
+use Rattle.std.proofs.Common.{◌≡◌, ◌≢◌, inl, ◌-◌, ◌%◌, ℕ, refl, sym, subst, ap, ◌∙◌, arith}
+use Rattle.std.specs.Prelude.{Bool, true, false, ◌==◌, ◌&&◌, ◌||◌, not, if◌then◌else◌, Option, None}
 use Rattle.std.proofs.lemmas.Bool.Decides.{nat_tests}
 use Rattle.core_views.specs.declared.place.FaultPlace.TheVariants.{End, Unshare}
 use Rattle.core_views.specs.declared.place.Cause.TheVariants.{Entry}
 use Rattle.core_views.specs.declared.sizes.Sizes.{Sizes}
 use Rattle.core_views.specs.declared.topics.HostLook.{HostLook}
-use Rattle.core_views.specs.declared.topics.TableWalk.{TableWalk}
 use Rattle.core_views.specs.declared.topics.Topics.{Topics}
 use Rattle.core_views.specs.declared.trace.Slot.{Slot}
-use Rattle.spte_words.specs.declared.spte_kind.SpteKind.{SpteKind}
-use Rattle.spte_words.specs.declared.spte_kind.SpteKind.TheVariants as entry_kind
 use Rattle.spte_words.specs.Entries.{can_write, kind_of, level_span, with_write, without_write}
 use Rattle.spte_words.specs.HostWords.{host_allows_write, host_frame}
 use Rattle.spte_words.proofs.FixedEntries.{fixed_back, fixed_can_write, fixed_kind}
 use Rattle.spte_words.proofs.ReadsEntries.{leaf_can_write}
-use Rattle.spte_words.proofs.Spans.{span_1}
-use Rattle.mmu_core.specs.forms.access.FaultKnows.{Entering, FastFound, FaultKnows, HasEntry, IsFixed, Marks}
+use Rattle.mmu_core.specs.forms.access.FaultKnows.{Entering, FastFound, FaultKnows, IsFixed, Marks}
 use Rattle.mmu_core.specs.forms.access.FaultSteps.{allows_access, entry_word, exchange_lost, over_next, put_next}
-use Rattle.part_steps.specs.PartHoldings.{IsOver, LookedUp, MayFix, SawEntry, is_fixable}
+use Rattle.part_steps.specs.PartHoldings.{LookedUp, MapsRun, MayFix, SawEntry, is_fixable}
 use Rattle.part_steps.specs.PartTasks.{entry_index, leaf_fixed, leaf_written, puts_write, word_looked}
 use Rattle.part_steps.specs.PartTopics.{exchanged}
 use Rattle.part_steps.specs.SlotWords.{leaf_at, leaf_of, may_write}
-use Rattle.part_steps.specs.WalkTopics.{gone_down, linked_page, owed_after, unless_linked}
 use Rattle.mmu_core.proofs.pages.NewLeaves.{leaf_is}
 use Rattle.mmu_core.proofs.forms.access.FaultSame.{both, is_not, same_entry, same_found, same_inside, whole_anew}
 use Rattle.mmu_core.proofs.forms.access.WalkKnown.{saw_it}
-
--- An entry above the lowest level owes no mark.
-pub upper_owes_none : (won : Bool) (t : Topics) (index new_ : ℕ) → 2 ≤ t.walk.level → owed_after won t.search.logged t.walk index new_ t.owed ≡ t.owed
-upper_owes_none won t index new_ upper = ap (λ (b : Bool). if b then Some (t.walk.prefix * 512 + index) else t.owed) (none won)
-  where
-    above : (t.walk.level == 1) ≡ false
-    above = grind (arith, nat_tests)
-
-    none : (b : Bool) → (b && ((t.walk.level == 1) && (t.search.logged && can_write new_))) ≡ false
-    none true = ap (λ (x : Bool). x && (t.search.logged && can_write new_)) above
-    none false = refl
-
--- One of the lowest level is over one guest frame.
-pub lowest_frame : (gfn : ℕ) (walk : TableWalk) → IsOver gfn walk → walk.level ≡ 1 → walk.prefix * 512 + entry_index gfn walk.level ≡ gfn
-lowest_frame gfn walk O low = by span index
-  where
-    one : level_span walk.level ≡ 1
-    one = ap (λ (l : ℕ). level_span l) low ∙ span_1
-
-    span : gfn / 1 / 512 ≡ walk.prefix
-    span = subst (λ (n : ℕ). gfn / n / 512 ≡ walk.prefix) one O.span
-
-    index : entry_index gfn walk.level ≡ gfn / 1 % 512
-    index = ap (λ (n : ℕ). gfn / n % 512) one
-
-    by : gfn / 1 / 512 ≡ walk.prefix → entry_index gfn walk.level ≡ gfn / 1 % 512 → walk.prefix * 512 + entry_index gfn walk.level ≡ gfn
-    by is at = omega (arith, is, at)
-
--- A mark is owed where the leaf allows writes, in a slot with a dirty log.
-pub owed_is : (gfn new_ : ℕ) (logged marks : Bool) (t : Topics) → IsOver gfn t.walk → t.walk.level ≡ 1 → (logged && can_write new_) ≡ marks → t.owed ≡ None
-    → owed_after true logged t.walk (entry_index gfn t.walk.level) new_ t.owed ≡ (if marks then Some gfn else None)
-owed_is gfn new_ logged marks t O low is none =
-    ap (λ (b : Bool). if b && (logged && can_write new_) then Some (t.walk.prefix * 512 + entry_index gfn t.walk.level) else t.owed) lowest
-    ∙ ap (λ (b : Bool). if b then Some (t.walk.prefix * 512 + entry_index gfn t.walk.level) else t.owed) is
-    ∙ ap (λ (n : ℕ). if marks then Some n else t.owed) (lowest_frame gfn t.walk O low)
-    ∙ ap (λ (o : Option ℕ). if marks then Some gfn else o) none
-  where
-    lowest : (t.walk.level == 1) ≡ true
-    lowest = grind (arith, nat_tests)
-
--- A leaf was put at the lowest level, where it allows the access.
-pub record IsPut (gfn : ℕ) (write : Bool) (t : Topics) (new_ : ℕ) : Type 0 where
-  pub over : IsOver gfn t.walk
-  pub low : t.walk.level ≡ 1
-  pub leaf : kind_of 1 new_ ≡ entry_kind.Leaf
-  pub allows : allows_access write new_ ≡ true
-  pub owes_none : t.owed ≡ None
-
-abbrev pub put_at : ℕ → ℕ → ℕ → Bool → Topics → Topics
-put_at gfn new_ v marks t = record t {
-  walk = gone_down None t.walk (entry_index gfn t.walk.level) new_;
-  owed = if marks then Some gfn else None;
-}
-
--- what is held after it
-pub put_is : (gfn new_ v : ℕ) (write marks : Bool) (t : Topics) → IsPut gfn write t new_ → (t.search.logged && can_write new_) ≡ marks
-    → exchanged true (entry_index gfn t.walk.level) new_ t v ≡ put_at gfn new_ v marks t
-put_is gfn new_ v write marks t P is =
-    ap (λ (k : SpteKind). record t {
-      walk = gone_down (linked_page k) t.walk (entry_index gfn t.walk.level) new_;
-      owned = unless_linked (linked_page k) t.owned;
-      owed = owed_after true t.search.logged t.walk (entry_index gfn t.walk.level) new_ t.owed;
-    }) stays
-    ∙ ap (λ (o : Option ℕ). record t { walk = gone_down None t.walk (entry_index gfn t.walk.level) new_; owed = o })
-    (owed_is gfn new_ t.search.logged marks t P.over P.low is P.owes_none)
-  where
-    stays : kind_of t.walk.level new_ ≡ entry_kind.Leaf
-    stays = ap (λ l. kind_of l new_) P.low ∙ P.leaf
-
-has_entry : (gfn new_ v : ℕ) (write marks : Bool) (t : Topics) → IsPut gfn write t new_ → HasEntry gfn write (put_at gfn new_ v marks t)
-has_entry gfn new_ v write marks t P = record { saw = saw_it gfn new_ t.walk P.over; lowest = P.low; leaf = P.leaf; allows = P.allows }
+use Rattle.mmu_core.proofs.forms.access.LeafPut.{IsPut, has_entry, logged_lowest, put_at, put_is}
 
 -- ---- the leaf of a fault
 
@@ -122,12 +47,12 @@ leaf_marks level first true false slot word may = refl
 leaf_marks level first false true slot word may = leaf_can_write level first false (host_allows_write word) (may_write slot word)
 leaf_marks level first false false slot word may = refl
 
-pub leaf_put : (gfn : ℕ) (write : Bool) (t : Topics) → Entering gfn write t → SawEntry gfn t.walk → t.walk.level ≡ 1
+pub leaf_put : (gfn : ℕ) (write : Bool) (t : Topics) → Entering gfn write t → SawEntry gfn t.walk → MapsRun gfn t
     → IsPut gfn write t (leaf_written gfn write t)
-leaf_put gfn write t E S low = record {
+leaf_put gfn write t E S maps = record {
   over = S.over;
-  low = low;
-  leaf = ap (λ l. kind_of l (leaf_written gfn write t)) (sym low) ∙ leaf_is gfn write t (omega (arith, low)) (omega (arith, low));
+  low = logged_lowest gfn t maps S.over.there;
+  leaf = leaf_is gfn write t S.over.there maps.most;
   allows =
       ap (λ (x : Option HostLook). allows_access write (leaf_of t.walk.level gfn (puts_write write t) t.search.slot (word_looked x))) L.host
       ∙ allowed_leaf t.walk.level (host_frame L.word - gfn % level_span t.walk.level) write (puts_write write t) t.search.slot L.word (asked_puts write t)
@@ -150,6 +75,7 @@ puts_marks gfn write t E =
         ap (λ (x : Option HostLook). may_write t.search.slot (word_looked x)) L.host
         ∙ ap (λ (b : Bool). b && not t.search.slot.read_only) M.1 ∙ ap (λ (b : Bool). not b) M.0
 
+-- Where a mark is owed the slot has a dirty log, so the leaf is of the lowest level.
 leaf_ends : (marks : Bool) (z : Sizes) (gfn new_ v : ℕ) (write : Bool) (t : Topics) → (marks ≡ true → t.search.logged ≡ true) → Entering gfn write t
     → t.owned ≡ None → IsPut gfn write t new_ → FaultKnows (put_next false marks) z gfn write (put_at gfn new_ v marks t)
 leaf_ends true z gfn new_ v write t logged E none P = record {
@@ -159,6 +85,7 @@ leaf_ends true z gfn new_ v write t logged E none P = record {
   owes = refl;
   found = same_found gfn t _ refl E.sharing.looked.looked_up.found;
   entry = has_entry gfn new_ v write true t P;
+  lowest = P.low (logged refl);
   logged = logged refl;
   fixed = λ e. absurd (cc e);
 }
@@ -169,10 +96,10 @@ leaf_ends false z gfn new_ v write t logged E none P = (
 )
 
 pub leaf_known : (b writes : Bool) (z : Sizes) (gfn : ℕ) (write : Bool) (t : Topics) (v : ℕ) → (v == t.walk.entry) ≡ b → Entering gfn write t → t.owned ≡ None
-    → SawEntry gfn t.walk → t.walk.level ≡ 1 → writes ≡ write
+    → SawEntry gfn t.walk → MapsRun gfn t → writes ≡ write
     → FaultKnows (if b then put_next false (writes && t.search.logged) else Unshare (exchange_lost false z gfn t.walk v)) z gfn write
     (exchanged b (entry_index gfn t.walk.level) (leaf_written gfn writes t) t v)
-leaf_known true writes z gfn write t v is E none S low same = subst
+leaf_known true writes z gfn write t v is E none S maps same = subst
     (λ (w : Bool). FaultKnows (put_next false (w && t.search.logged)) z gfn write (exchanged true (entry_index gfn t.walk.level) (leaf_written gfn w t) t v))
     (sym same)
     (subst (λ (u : Topics). FaultKnows (put_next false (write && t.search.logged)) z gfn write u)
@@ -180,8 +107,8 @@ leaf_known true writes z gfn write t v is E none S low same = subst
     (leaf_ends (write && t.search.logged) z gfn (leaf_written gfn write t) v write t (λ is. (both write t.search.logged is).1) E none P))
   where
     P : IsPut gfn write t (leaf_written gfn write t)
-    P = leaf_put gfn write t E S low
-leaf_known false writes z gfn write t v is E none S low same = (
+    P = leaf_put gfn write t E S maps
+leaf_known false writes z gfn write t v is E none S maps same = (
   record { section = E.sharing.section; owns_none = none; owes_none = E.sharing.owes_none },
   E.sharing.shares,
   whole_anew (Entry (entry_word z gfn t.walk) t.walk.entry v) z gfn _
@@ -193,8 +120,8 @@ leaf_known false writes z gfn write t v is E none S low same = (
 pub fix_put : (gfn : ℕ) (write : Bool) (t : Topics) → MayFix gfn t → IsPut gfn write t (leaf_fixed t)
 fix_put gfn write t M = record {
   over = M.saw.over;
-  low = M.lowest;
-  leaf = ap (λ l. kind_of l (leaf_fixed t)) (sym M.lowest) ∙ fixed_kind t.walk.level t.walk.entry M.leaf denies;
+  low = λ logged. M.lowest;
+  leaf = fixed_kind t.walk.level t.walk.entry M.leaf denies;
   allows = ap (λ (b : Bool). not write || b) writes ∙ either write;
   owes_none = M.owes_none;
 }
@@ -219,8 +146,8 @@ fix_marks gfn t M =
     and_true true = refl
     and_true false = refl
 
-fix_is : (gfn : ℕ) (t : Topics) → MayFix gfn t → IsFixed (leaf_fixed t)
-fix_is gfn t M = record { fixable = ap is_fixable back ∙ M.fixable; set = ap with_write back }
+fix_is : (gfn : ℕ) (t : Topics) → MayFix gfn t → IsFixed t.walk.level (leaf_fixed t)
+fix_is gfn t M = record { lowest = M.lowest; fixable = ap is_fixable back ∙ M.fixable; set = ap with_write back }
   where
     back : without_write (leaf_fixed t) ≡ t.walk.entry
     back = fixed_back t.walk.entry (is_not (can_write t.walk.entry) (both (not (can_write t.walk.entry)) _ M.fixable).0)
@@ -234,6 +161,7 @@ fix_ends true z gfn v write t logged F M P = record {
   owes = refl;
   found = same_found gfn t _ refl F.found;
   entry = has_entry gfn (leaf_fixed t) v write true t P;
+  lowest = M.lowest;
   logged = logged;
   fixed = λ e. fix_is gfn t M;
 }

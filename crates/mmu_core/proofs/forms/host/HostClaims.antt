@@ -1,8 +1,8 @@
 -- A line that changes a host page claims no page of the pool; one that moves it claims a frame.
-use Rattle.std.proofs.Common.{◌≡◌, ◌≢◌, ◌⊎◌, inl, ◌+◌, ◌==◌, ℕ, Bool, true, false, refl}
+use Rattle.std.proofs.Common.{◌≡◌, ◌≢◌, ◌⊎◌, inl, ◌+◌, ◌==◌, ℕ, Bool, true, false, refl, inr}
 use Rattle.std.specs.Prelude.{None, if◌then◌else◌, nat_lt}
 use Rattle.core_views.specs.declared.answer.Answer.TheVariants.{Done, Moved, Refused}
-use Rattle.core_views.specs.declared.answer.Refusal.TheVariants.{OutOfRange}
+use Rattle.core_views.specs.declared.answer.Refusal.TheVariants.{OutOfRange, IsHuge}
 use Rattle.core_views.specs.declared.place.BeginPlace.TheVariants as begins
 use Rattle.core_views.specs.declared.place.EndPlace.TheVariants as ends
 use Rattle.core_views.specs.declared.place.HostPlace.{HostPlace}
@@ -23,13 +23,13 @@ use Rattle.mmu_core.specs.declared.invalidate.BeginNext.TheVariants as begins_ne
 use Rattle.mmu_core.specs.declared.outcome.Outcome.TheVariants.{Goes, Ends}
 use Rattle.mmu_core.specs.forms.access.AccessSteps.{ends_with}
 use Rattle.mmu_core.specs.orders.ClaimSteps.{FreeMap, Pages, Frames, claim_next}
-use Rattle.mmu_core.specs.forms.host.HostSteps.{after_begin, host_note, host_outcome, host_part, moves}
+use Rattle.mmu_core.specs.forms.host.HostSteps.{after_begin, host_note, host_outcome, host_part, moves, after_look, maps_large}
 use Rattle.mmu_core.specs.orders.InvalidateSteps.{begin_next}
 use Rattle.mmu_core.specs.lines.ScanPlaces.{HasScan, answer_without, claim_at}
 use Rattle.mmu_core.specs.orders.WatchSteps.{watch_next}
 use Rattle.mmu_core.proofs.lines.EitherPlace.{each_map, each_watch, either_place}
 use Rattle.mmu_core.proofs.forms.access.FaultScans.{maps}
-use Rattle.mmu_core.proofs.lines.LineClaims.{Claims, ClaimsNot, HasNoScan, claim_leads, claim_notes, claim_scans, is_answered, to_no_scan}
+use Rattle.mmu_core.proofs.lines.LineClaims.{to_no_scan_noted, Claims, ClaimsNot, HasNoScan, claim_leads, claim_notes, claim_scans, is_answered, IsLook}
 
 abbrev is_claim : HostPlace → Bool
 is_claim (Claim begun) = true
@@ -53,21 +53,21 @@ host_maps_not map (End ends.Exclude) page change h other = refl
 host_maps_not map (End _) page change h other = refl
 host_maps_not map _ page change h other = refl
 
-note_by_own : (b : Bool) (p : HostPlace) → (if b then 0 else 1) ≡ ends_with (if b then Goes (place.Host p) else Ends (Refused OutOfRange))
-note_by_own true p = refl
-note_by_own false p = refl
-
 note_by_end : (b : Bool) → (if b then 0 else 1) ≡ ends_with (if b then Goes (place.Host Watch) else Ends Done)
 note_by_end true = refl
 note_by_end false = refl
 
-host_notes : (p : HostPlace) (page : ℕ) (h : Held) (v : ℕ) → is_claim p ≡ false → host_note p page h ≡ ends_with (host_outcome p page h v)
+host_notes : (p : HostPlace) (page : ℕ) (h : Held) (v : ℕ) → is_claim p ≡ false
+    → (host_note p page h ≡ ends_with (host_outcome p page h v)) ⊎ IsLook (place.Host p)
 host_notes (Claim begun) page h v other = absurd (cc other)
-host_notes (Look to_move) page h v other =
-    note_by_own (is_own h.state.sizes h.state.actor page) (if to_move then Claim false else Begin begins.Exclude)
-host_notes (End ends.Release) page h v other = note_by_end (moves h.topics)
-host_notes (End _) page h v other = refl
-host_notes _ page h v other = refl
+host_notes (Look to_move) page h v other = inr (to_move, refl)
+host_notes (End ends.Release) page h v other = inl (note_by_end (moves h.topics))
+host_notes (End _) page h v other = inl refl
+host_notes _ page h v other = inl refl
+
+or_look : {A B C : Type 0} → A ⊎ C → A ⊎ B ⊎ C
+or_look (inl is) = inl is
+or_look (inr look) = inr (inr look)
 
 -- ---- none of them leads to a scan
 
@@ -85,9 +85,10 @@ by_begin false begins_next.Begun = goes_on Change (λ S. S)
 scans_none : (p : HostPlace) (page : ℕ) (h : Held) (v : ℕ) → is_claim p ≡ false → HasNoScan (host_outcome p page h v)
 scans_none (Claim begun) page h v other = absurd (cc other)
 scans_none (Look to_move) page h v other =
-    either_place HasNoScan (is_own h.state.sizes h.state.actor page) (Goes (place.Host (if to_move then Claim false else Begin begins.Exclude)))
-    (Ends (Refused OutOfRange))
-    (either_place NoScan to_move (Claim false) (Begin begins.Exclude) (goes_on (Claim false) (λ S. cc S)) (goes_on (Begin begins.Exclude) (λ S. S)))
+    either_place HasNoScan (is_own h.state.sizes h.state.actor page) (after_look to_move v) (Ends (Refused OutOfRange))
+    (either_place HasNoScan (maps_large v) (Ends (Refused IsHuge)) (Goes (place.Host (if to_move then Claim false else Begin begins.Exclude)))
+    (is_answered (Refused IsHuge) (each_map (λ map. Ends (Refused IsHuge) ≢ Ends (answer_without map)) (λ e. cc e) (λ e. cc e)))
+    (either_place NoScan to_move (Claim false) (Begin begins.Exclude) (goes_on (Claim false) (λ S. cc S)) (goes_on (Begin begins.Exclude) (λ S. S))))
     (is_answered (Refused OutOfRange) (each_map (λ map. Ends (Refused OutOfRange) ≢ Ends (answer_without map)) (λ e. cc e) (λ e. cc e)))
 scans_none (Begin p) page h v other = by_begin (moves h.topics) (begin_next p h.state.sizes (aim.Page page) h.topics v)
 scans_none Copy page h v other = goes_on Store (λ S. S)
@@ -120,8 +121,8 @@ module _ (page : ℕ) (change : HostChange) (h : Held) (v : ℕ) where
 
   other_step : (p : HostPlace) → is_claim p ≡ false → OfHost p
   other_step p other =
-      to_no_scan (place.Host p) (ChangeHost page change) h v (no_claim p other) (λ map. host_maps_not map p page change h other)
-      (host_notes p page h v other) (scans_none p page h v other)
+      to_no_scan_noted (place.Host p) (ChangeHost page change) h v (no_claim p other) (λ map. host_maps_not map p page change h other)
+      (or_look (host_notes p page h v other)) (scans_none p page h v other)
 
   pub host_claims_or_not : (p : HostPlace) → OfHost p
   host_claims_or_not (Claim begun) =

@@ -1,5 +1,5 @@
 -- The steps of a line that changes a host page keep the invariant.
-use Rattle.core_views.specs.declared.answer.Refusal.TheVariants.{NoFrame, OutOfRange}
+use Rattle.core_views.specs.declared.answer.Refusal.TheVariants.{NoFrame, OutOfRange, IsHuge}
 use Rattle.core_views.specs.declared.answer.Answer.TheVariants.{Done, Refused}
 use Rattle.mmu_core.specs.declared.outcome.Outcome.TheVariants.{Goes, Ends}
 use Rattle.mmu_core.proofs.slots.SlotsStay.{AllKnow}
@@ -25,7 +25,7 @@ use Rattle.part_steps.specs.PartBounds.{PartRests}
 use Rattle.part_steps.specs.PartTasks.{own_index, part_task}
 use Rattle.mmu_core.specs.invariant.Invariant.{Invariant, KnowsPart, RetiresPart, Holds}
 use Rattle.mmu_core.specs.invariant.TopicsInvariant.{TopicsInvariant}
-use Rattle.mmu_core.specs.forms.host.HostSteps.{host_note, host_outcome, host_part, moves}
+use Rattle.mmu_core.specs.forms.host.HostSteps.{host_note, host_outcome, host_part, moves, after_look, maps_large}
 use Rattle.mmu_core.specs.machine.View.{View, answer_in, stepped}
 use Rattle.mmu_core.proofs.invariant.QuietHand.{one_step, quiet_hand}
 use Rattle.mmu_core.proofs.invariant.QuietKept.{MakesAt}
@@ -82,8 +82,10 @@ host_quiet _ page change h other = refl
 host_holds : (p : HostPlace) (page : ℕ) (change : HostChange) (h g : Held) (x : ℕ) (z : Sizes) (pool : ℕ → ℕ) (set : ℕ)
     → Holds z pool set (place_after (host_outcome p page h x)) (ChangeHost page change) g
 host_holds (Look moving) page change h g x z pool set =
-    either_place (λ o. Holds z pool set (place_after o) (ChangeHost page change) g) (is_own h.state.sizes h.state.actor page)
-    (Goes (place.Host (if moving then Claim false else Begin begins.Exclude))) (Ends (Refused OutOfRange)) tt tt
+    either_place (λ o. Holds z pool set (place_after o) (ChangeHost page change) g) (is_own h.state.sizes h.state.actor page) (after_look moving x)
+    (Ends (Refused OutOfRange))
+    (either_place (λ o. Holds z pool set (place_after o) (ChangeHost page change) g) (maps_large x) (Ends (Refused IsHuge))
+    (Goes (place.Host (if moving then Claim false else Begin begins.Exclude))) tt tt) tt
 host_holds (Claim begun) page change h g x z pool set =
     each_claim (λ o. Holds z pool set (place_after o) (ChangeHost page change) g) (claim_next Frames begun h.state.sizes h.topics.frames.claim x)
     (place.Host (Claim true)) (place.Host (Begin begins.Exclude)) (Refused NoFrame) tt tt tt

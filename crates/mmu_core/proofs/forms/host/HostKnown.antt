@@ -1,9 +1,9 @@
 -- A line that changes a host page knows after each of its steps what its next place asks.
 use Rattle.std.proofs.Common.{◌≡◌, ◌≤◌, ℕ, Bool, true, false, refl, subst, ap, ◌∙◌, sym}
-use Rattle.std.specs.Prelude.{◌+◌, ◌==◌, if◌then◌else◌, nat_lt, Some, None, is_some}
+use Rattle.std.specs.Prelude.{◌+◌, ◌==◌, if◌then◌else◌, nat_lt, Some, None, is_some, Option}
 use Rattle.circular_buffer.specs.Buffer.{Buffer}
 use Rattle.core_views.specs.declared.answer.Answer.TheVariants.{Done, Refused}
-use Rattle.core_views.specs.declared.answer.Refusal.TheVariants.{OutOfRange}
+use Rattle.core_views.specs.declared.answer.Refusal.TheVariants.{IsHuge, OutOfRange}
 use Rattle.core_views.specs.declared.cache.Translation.{Translation}
 use Rattle.core_views.specs.declared.place.BeginPlace.{BeginPlace}
 use Rattle.core_views.specs.declared.place.BeginPlace.TheVariants as begins
@@ -40,7 +40,7 @@ use Rattle.mmu_core.specs.declared.watch.WatchNext.{WatchNext}
 use Rattle.mmu_core.specs.orders.ClaimSteps.{Frames}
 use Rattle.mmu_core.specs.forms.access.FaultLaws.{CanAnswer}
 use Rattle.mmu_core.specs.lines.Forms.{KnowsPart, may_open}
-use Rattle.mmu_core.specs.forms.host.HostKnows.{HasFlushed, HostKnows, LooksAt, OwnsToMove}
+use Rattle.mmu_core.specs.forms.host.HostKnows.{HasFlushed, HostKnows, LooksAt, OwnsToMove, SawSmall}
 use Rattle.mmu_core.specs.forms.host.HostSteps.{after_begin, after_end, after_frame_claim, after_frame_watch, host_outcome, host_part, moves, word_put}
 use Rattle.mmu_core.specs.orders.InvalidateKnows.{EndKnows}
 use Rattle.part_steps.specs.StayTopics.{is_loose, is_section}
@@ -60,6 +60,8 @@ use Rattle.mmu_core.proofs.orders.WatchMade as made
 use Rattle.mmu_core.proofs.machine.HandWith.{hand_with}
 use Rattle.part_steps.specs.InvalidationRange.{IsOnRun}
 use Rattle.core_views.specs.declared.topics.Invalidations.{Invalidations}
+use Rattle.mmu_core.specs.forms.host.HostSteps.{maps_large}
+use Rattle.core_views.specs.declared.topics.HostLook.{HostLook}
 
 -- What an invalidation's steps leave: what the line has looked up.
 pub begin_leaves_host : (p : BeginPlace) (target : Target) (t : Topics) (v : ℕ) → (part_topics (begin_part p target t) t v).host ≡ t.host
@@ -85,14 +87,19 @@ module _ (line : Line) (h : Held) (page : ℕ) (change : HostChange) (cached : B
   looks_still : (p : HostPlace) (u : Topics) → u.host ≡ h.topics.host → LooksAt page h → LooksAt page (behind p u)
   looks_still p u same L = record { own_ = L.own_; looked = ap is_some same ∙ L.looked; at = ap page_looked same ∙ L.at }
 
+  small_still : (p : HostPlace) (u : Topics) → u.host ≡ h.topics.host → SawSmall h → SawSmall (behind p u)
+  small_still p u same small = ap (λ (o : Option HostLook). maps_large (word_looked o)) same ∙ small
+
   -- ---- the look, and the claim
 
-  look_known : (moving own_ : Bool) → is_own h.state.sizes h.state.actor page ≡ own_ → HostKnows (Look moving) page change h
+  look_known : (moving own_ large : Bool) → is_own h.state.sizes h.state.actor page ≡ own_ → maps_large v ≡ large → HostKnows (Look moving) page change h
       → h.topics.invalidations.opened ≡ false
-      → KnowsBehind (if own_ then Goes (place.Host (if moving then Claim false else Begin begins.Exclude)) else Ends (Refused OutOfRange))
+      → KnowsBehind (if own_ then (if large then Ends (Refused IsHuge) else Goes (place.Host (if moving then Claim false else Begin begins.Exclude)))
+      else Ends (Refused OutOfRange))
       (ChangeHost page change) (behind (Look moving) (part_topics (if own_ then part.Host page else part.Seq) h.topics v))
-  look_known moving false is K closed = rests_by_seq h.topics v K.0
-  look_known moving true is K closed =
+  look_known moving false large is size K closed = rests_by_seq h.topics v K.0
+  look_known moving true true is size K closed = rests_still h.topics (part_topics (part.Host page) h.topics v) refl refl refl refl refl refl K.0
+  look_known moving true false is size K closed =
       let u : Topics = part_topics (part.Host page) h.topics v in
       let looks : LooksAt page (behind (Look moving) u) = record { own_ = is; looked = refl; at = refl } in
       one_place (λ q. Knows q (behind (Look moving) u)) moving (Claim false) (Begin begins.Exclude)
@@ -100,35 +107,44 @@ module _ (line : Line) (h : Held) (page : ℕ) (change : HostChange) (cached : B
         rests_still h.topics u refl refl refl refl refl refl K.0,
         looks,
         record { moves = sym K.1 ∙ e; owns_none = K.2; within = λ b. absurd (cc b) },
+        size,
       ))
       (λ e. (
         looks,
         (rests_free u (rests_still h.topics u refl refl refl refl refl refl K.0), closed),
         owns_none change h.topics.frames.owned K.2 (sym K.1 ∙ e),
         K.0.owns_none,
+        size,
       ))
 
   claim_known : (begun : Bool) (next : ClaimNext) (u : Topics) → u.host ≡ h.topics.host → u.invalidations ≡ h.topics.invalidations
       → RestsAfterClaim Frames next h.state.sizes u → HostKnows (Claim begun) page change h → h.topics.invalidations.opened ≡ false
       → KnowsBehind (after_frame_claim next) (ChangeHost page change) (behind (Claim begun) u)
   claim_known begun claims.Goes u same opens C K closed =
-      (C.0, looks_still (Claim begun) u same K.1, record { moves = K.2.moves; owns_none = C.1; within = λ b. C.2 })
+      (C.0, looks_still (Claim begun) u same K.1, record { moves = K.2.moves; owns_none = C.1; within = λ b. C.2 }, small_still (Claim begun) u same K.3)
   claim_known begun claims.Got u same opens C K closed = (
     looks_still (Claim begun) u same K.1,
     (rests_free u C.0, ap (λ n. n.opened) opens ∙ closed),
     record { owns = C.1.owns ∙ sym K.2.moves; uncopied = C.1.uncopied },
     C.0.owns_none,
+    small_still (Claim begun) u same K.3,
   )
   claim_known begun claims.Empty u same opens C K closed = C.0
 
   -- ---- the invalidation
 
   begin_comes : (p : BeginPlace) (next : BeginNext) (u : Topics) → u.host ≡ h.topics.host → LeavesPages h.topics u → LooksAt page h
-      → 1 ≤ h.state.sizes.words → OwnsToMove change h.topics.frames.owned → h.topics.owned ≡ None → BeginComes next h.state.sizes (aim.Page page) u
+      → 1 ≤ h.state.sizes.words → OwnsToMove change h.topics.frames.owned → h.topics.owned ≡ None → SawSmall h
+      → BeginComes next h.state.sizes (aim.Page page) u
       → Knows (after_begin (moves h.topics) next) (behind (Begin p) u)
-  begin_comes p (begins_next.Goes q) u same leaves L some O none C =
-      (looks_still (Begin p) u same L, C, subst (λ (f : HeldFrames). OwnsToMove change f.owned) (sym leaves.frames) O, leaves.owned ∙ none)
-  begin_comes p begins_next.Begun u same leaves L some O none C =
+  begin_comes p (begins_next.Goes q) u same leaves L some O none small C = (
+    looks_still (Begin p) u same L,
+    C,
+    subst (λ (f : HeldFrames). OwnsToMove change f.owned) (sym leaves.frames) O,
+    leaves.owned ∙ none,
+    small_still (Begin p) u same small,
+  )
+  begin_comes p begins_next.Begun u same leaves L some O none small C =
       let frames = leaves.frames in
       let flushed : HasFlushed page (behind (Begin p) u) =
       record { owns_none = leaves.owned ∙ none; opened = C.0; invalid = subst (IsOnRun page) (sym C.1) refl; asked = C.2; awaited = C.3 } in
@@ -216,14 +232,14 @@ module _ (line : Line) (h : Held) (page : ℕ) (change : HostChange) (cached : B
   pub host_known : (p : HostPlace) → PartRests h → HostKnows p page change h → (may_open (place.Host p) ≡ false → h.topics.invalidations.opened ≡ false)
       → CanAnswer (host_part p page change h) v
       → KnowsBehind (host_outcome p page h v) (ChangeHost page change) (behind p (part_topics (host_part p page change h) h.topics v))
-  host_known (Look moving) R K closed A = look_known moving (is_own h.state.sizes h.state.actor page) refl K (closed refl)
+  host_known (Look moving) R K closed A = look_known moving (is_own h.state.sizes h.state.actor page) (maps_large v) refl refl K (closed refl)
   host_known (Claim begun) R K closed A =
       let M = claim_made h.state.sizes Frames begun h.topics v in
       claim_known begun _ _ (claim_host h.state.sizes Frames begun h.topics v _ _ _ M) (claim_opens h.state.sizes Frames begun h.topics v _ _ _ M)
       (claim_rests h.state.sizes Frames begun h.topics v _ _ _ M K.0 K.2.owns_none K.2.within) K (closed refl)
   host_known (Begin p) R K closed A =
       begin_comes p (begin_next p h.state.sizes (aim.Page page) h.topics v) (part_topics (begin_part p (aim.Page page) h.topics) h.topics v)
-      (begin_leaves_host p (aim.Page page) h.topics v) (begin_leaves_pages p (aim.Page page) h.topics v) K.0 R.sizes.words.0 K.2 K.3
+      (begin_leaves_host p (aim.Page page) h.topics v) (begin_leaves_pages p (aim.Page page) h.topics v) K.0 R.sizes.words.0 K.2 K.3 K.4
       (begin_known p h.state.sizes (aim.Page page) h.topics v R.sizes tt (looks_aimed page h K.0 K.3) R.frames R.level K.1 A)
   host_known Copy R K closed A =
       let C = copied_next change h.state.sizes.words h.topics.frames.owned v K.2 in

@@ -1,7 +1,7 @@
 -- A line that changes a host page has what each of its steps needs.
 use Rattle.std.proofs.lemmas.Option.{get_or_from_slice_get, slice_get_within}
 use Rattle.std.proofs.Common.{◌≡◌, ◌+◌, ◌<◌, ◌≤◌, ℕ, Bool, true, false, refl, inr, subst, ap, ◌∙◌, arith, Option, sym}
-use Rattle.std.specs.Prelude.{◌&&◌, if◌then◌else◌, nat_lt, Some, None, slice_get, unwrap_or, is_some}
+use Rattle.std.specs.Prelude.{◌&&◌, if◌then◌else◌, nat_lt, Some, None, slice_get, unwrap_or, is_some, false}
 use Rattle.core_views.specs.declared.actor.Actor.{Actor}
 use Rattle.core_views.specs.declared.actor.Actor.TheVariants.{Host}
 use Rattle.core_views.specs.declared.place.EndPlace.{EndPlace}
@@ -19,14 +19,14 @@ use Rattle.core_views.specs.HostChanges.{is_own}
 use Rattle.core_views.specs.Sizes.{AreSizes, first_page_in}
 use Rattle.part_steps.specs.declared.invalidations.Target.TheVariants as aim
 use Rattle.part_steps.specs.declared.part_step.PartStep.TheVariants as part
-use Rattle.part_steps.specs.InvalidationHoldings.{MayChange}
+use Rattle.part_steps.specs.InvalidationHoldings.{MayChange, OpensOnSmallPage}
 use Rattle.part_steps.specs.InvalidationRange.{IsAimed, page_looked, page_of_look, IsOnRun}
 use Rattle.part_steps.specs.PartBounds.{PartRests}
 use Rattle.part_steps.specs.PartSteps.{PartNeeds}
 use Rattle.part_steps.specs.PartTasks.{own_index, word_looked}
 use Rattle.part_steps.specs.StayTopics.{is_alone}
 use Rattle.mmu_core.specs.orders.ClaimSteps.{Frames}
-use Rattle.mmu_core.specs.forms.host.HostKnows.{HasFlushed, HostKnows, HostRests, LooksAt}
+use Rattle.mmu_core.specs.forms.host.HostKnows.{HasFlushed, HostKnows, HostRests, LooksAt, SawSmall}
 use Rattle.mmu_core.specs.forms.host.HostSteps.{host_part}
 use Rattle.mmu_core.specs.orders.InvalidateKnows.{EndKnows}
 use Rattle.mmu_core.specs.lines.PartWaits.{own_open, was_counted}
@@ -71,6 +71,13 @@ pub looks_aimed : (page : ℕ) (h : Held) → LooksAt page h → h.topics.owned 
 looks_aimed page h L none =
     ap (λ (o : Option OwnedPage). if is_some o then None else page_of_look h.topics.host) none ∙ looked_page h.topics.host page L.looked L.at
 
+-- It saw that this page, which is its own, is a small one.
+opens_small : (page : ℕ) (h : Held) → LooksAt page h → h.topics.owned ≡ None → SawSmall h → OpensOnSmallPage h
+opens_small page h L none small closed other aimed =
+    let both : Some page ≡ Some other = sym (looks_aimed page h L none) ∙ aimed in
+    let same : page ≡ other = cc both in
+    (subst (λ p. is_own h.state.sizes h.state.actor p ≡ true) same L.own_, small)
+
 -- Its page may be changed once it has flushed.
 may_change : (page : ℕ) (h : Held) → LooksAt page h → HasFlushed page h → MayChange h
 may_change page h L F = record {
@@ -88,7 +95,8 @@ pub host_needs : (p : HostPlace) (h : Held) (page : ℕ) (change : HostChange) �
 host_needs (Look moving) h page change R K =
     (look_needs (is_own h.state.sizes h.state.actor page) page h (λ e. own_low h.state.sizes h.state.actor page R.sizes e) K.0.loose, tt)
 host_needs (Claim begun) h page change R K = (claim_needs Frames begun h R.sizes K.2.owns_none K.2.within, tt)
-host_needs (Begin p) h page change R K = (begin_needs p h (aim.Page page) R tt (looks_aimed page h K.0 K.3) K.2.uncopied K.1, tt)
+host_needs (Begin p) h page change R K =
+    (begin_needs p h (aim.Page page) R tt (looks_aimed page h K.0 K.3) (opens_small page h K.0 K.3 K.4) K.2.uncopied K.1, tt)
 host_needs Copy h page change R K = (record { change = may_change page h K.0 K.1; owns = K.2.owns; left = K.2.left; is = refl }, tt)
 host_needs Store h page change R K =
     (record { change = may_change page h K.0 K.1; copied = K.3; left = K.2.left; is = refl; no_page = K.1.owns_none }, tt)

@@ -6,7 +6,7 @@ use Rattle.std.proofs.Common.{◌≡◌, ◌≤◌, ◌<◌, ◌+◌, ◌-◌, �
 use Rattle.std.specs.Prelude.{◌==◌, if◌then◌else◌, None}
 use Rattle.core_views.specs.declared.answer.Answer.{Answer}
 use Rattle.core_views.specs.declared.answer.Answer.TheVariants.{Done, Refused}
-use Rattle.core_views.specs.declared.answer.Refusal.TheVariants.{NoFrame, OutOfRange}
+use Rattle.core_views.specs.declared.answer.Refusal.TheVariants.{NoFrame, OutOfRange, IsHuge}
 use Rattle.core_views.specs.declared.event.EventKind.TheVariants.{HostChanged, LookedAtHost}
 use Rattle.core_views.specs.declared.place.BeginPlace.TheVariants as begins
 use Rattle.core_views.specs.declared.place.EndPlace.TheVariants as ends
@@ -28,7 +28,8 @@ use Rattle.spte_words.specs.HostWords.{host_present}
 use Rattle.mmu_core.specs.declared.outcome.Outcome.TheVariants.{Goes, Ends}
 use Rattle.mmu_core.specs.forms.access.FaultLeft.{find_left}
 use Rattle.mmu_core.specs.forms.host.HostKnows.{HostKnows, HostRests}
-use Rattle.mmu_core.specs.forms.host.HostSteps.{copies_left, frees_left, moves, host_left, host_outcome, host_part, host_tells, entry_of, word_put}
+use Rattle.mmu_core.specs.forms.host.HostSteps.{moves, host_outcome, host_part, host_tells, entry_of, word_put}
+use Rattle.mmu_core.specs.forms.host.HostLeft.{copies_left, frees_left, host_left}
 use Rattle.mmu_core.specs.lines.PartWaits.{part_waits}
 use Rattle.mmu_core.specs.forms.access.SearchLeft.{look_left}
 use Rattle.mmu_core.specs.forms.access.AccessSteps.{exiting}
@@ -48,13 +49,15 @@ use Rattle.core_views.specs.declared.trace.Command.{Command}
 use Rattle.core_views.specs.declared.trace.Command.TheVariants.{ChangeHost}
 use Rattle.mmu_core.proofs.lines.FormLaws.{FormLaws}
 use Rattle.mmu_core.proofs.lines.SimplePlaces.{Nothing, OfHost}
+use Rattle.mmu_core.specs.forms.host.HostSteps.{after_look, maps_large}
 
 -- ---- where it goes on to
 
 pub host_goes : (p : HostPlace) (page : ℕ) (h : Held) (v : ℕ) → GoesUnderWay (host_outcome p page h v) × GoesToNoAccess (host_outcome p page h v)
 host_goes (Look moving) page h v =
-    either_place (λ o. GoesUnderWay o × GoesToNoAccess o) (is_own h.state.sizes h.state.actor page)
-    (Goes (place.Host (if moving then Claim false else Begin begins.Exclude))) (Ends (Refused OutOfRange)) (tt, tt) (tt, tt)
+    either_place (λ o. GoesUnderWay o × GoesToNoAccess o) (is_own h.state.sizes h.state.actor page) (after_look moving v) (Ends (Refused OutOfRange))
+    (either_place (λ o. GoesUnderWay o × GoesToNoAccess o) (maps_large v) (Ends (Refused IsHuge))
+    (Goes (place.Host (if moving then Claim false else Begin begins.Exclude))) (tt, tt) (tt, tt)) (tt, tt)
 host_goes (Claim begun) page h v =
     each_claim (λ o. GoesUnderWay o × GoesToNoAccess o) (claim_next Frames begun h.state.sizes h.topics.frames.claim v) (place.Host (Claim true))
     (place.Host (Begin begins.Exclude)) (Refused NoFrame) (tt, tt) (tt, tt) (tt, tt)
@@ -178,7 +181,11 @@ pub host_fed : (p : HostPlace) (page : ℕ) (change : HostChange) (h : Held) (v 
 host_fed (Claim begun) page change h v =
     each_claim (λ o. AreFed (exiting o)) (claim_next Frames begun h.state.sizes h.topics.frames.claim v) (place.Host (Claim true))
     (place.Host (Begin begins.Exclude)) (Refused NoFrame) tt tt (λ e. absurd (cc e), tt)
-host_fed (Look moving) page change h v = either_place AreFed (is_own h.state.sizes h.state.actor page) (LookedAtHost page ∷ []) [] (λ e. absurd (cc e), tt) tt
+host_fed (Look moving) page change h v = either_place AreFed (is_own h.state.sizes h.state.actor page) (LookedAtHost page ∷ exiting (after_look moving v)) [] (
+  λ e. absurd (cc e),
+  either_place (λ o. AreFed (exiting o)) (maps_large v) (Ends (Refused IsHuge))
+      (Goes (place.Host (if moving then Claim false else Begin begins.Exclude))) (λ e. absurd (cc e), tt) tt,
+) tt
 host_fed Change page change h v =
     either_place AreFed (v == word_looked h.topics.host) (HostChanged page (entry_of (word_put change h.topics)) ∷ []) [] (λ e. absurd (cc e), tt) tt
 host_fed _ page change h v = tt

@@ -2,7 +2,7 @@
 use Rattle.std.proofs.Common.{◌≡◌, ◌+◌, ℕ, Bool, true, false, refl, ap, ◌∙◌}
 use Rattle.std.specs.Prelude.{◌==◌, if◌then◌else◌, nat_lt, None, is_some}
 use Rattle.core_views.specs.declared.answer.Answer.TheVariants.{Refused}
-use Rattle.core_views.specs.declared.answer.Refusal.TheVariants.{OutOfRange}
+use Rattle.core_views.specs.declared.answer.Refusal.TheVariants.{OutOfRange, IsHuge}
 use Rattle.core_views.specs.declared.place.BeginPlace.TheVariants as begins
 use Rattle.core_views.specs.declared.place.EndPlace.TheVariants as ends
 use Rattle.core_views.specs.declared.place.HostPlace.{HostPlace}
@@ -32,7 +32,7 @@ use Rattle.mmu_core.specs.orders.ClaimSteps.{Frames}
 use Rattle.mmu_core.specs.forms.access.FaultLaws.{CanAnswer}
 use Rattle.mmu_core.specs.lines.Forms.{RetiresPart}
 use Rattle.mmu_core.specs.forms.host.HostKnows.{HostKnows}
-use Rattle.mmu_core.specs.forms.host.HostSteps.{after_begin, after_end, after_frame_claim, host_outcome, host_part, moves, word_put}
+use Rattle.mmu_core.specs.forms.host.HostSteps.{after_begin, after_end, after_frame_claim, host_outcome, host_part, moves, word_put, maps_large}
 use Rattle.mmu_core.specs.orders.InvalidateSteps.{begin_next, end_next}
 use Rattle.mmu_core.specs.orders.WatchSteps.{watch_next}
 use Rattle.mmu_core.specs.machine.Outcomes.{place_after}
@@ -44,12 +44,13 @@ use Rattle.mmu_core.proofs.forms.host.HostNeeds.{looks_aimed}
 use Rattle.mmu_core.proofs.orders.InvalidatePlaces.{begin_leaves_pages, end_leaves_pages, not_yet_open}
 use Rattle.mmu_core.proofs.orders.InvalidateKnown.{BeginComes, EndComes, begin_known, ending_known}
 
-look_leaves : (moving own_ : Bool) (page : ℕ) (t : Topics) (v : ℕ) → t.retired ≡ None → t.invalidations.opened ≡ false → t.frames.owned ≡ None
-    → RetiresPart (place_after (if own_ then Goes (place.Host (if moving then Claim false else Begin begins.Exclude)) else Ends (Refused OutOfRange)))
-    (part_topics (if own_ then part.Host page else part.Seq) t v)
-look_leaves moving false page t v none closed loose = record { leaves = λ may. none; opens = λ may. closed; frames = λ may. loose }
-look_leaves true true page t v none closed loose = record { leaves = λ may. none; opens = λ may. closed; frames = λ may. loose }
-look_leaves false true page t v none closed loose = record { leaves = λ may. none; opens = λ may. closed; frames = λ may. loose }
+look_leaves : (moving own_ large : Bool) (page : ℕ) (t : Topics) (v : ℕ) → t.retired ≡ None → t.invalidations.opened ≡ false → t.frames.owned ≡ None
+    → RetiresPart (place_after (if own_ then (if large then Ends (Refused IsHuge) else Goes (place.Host (if moving then Claim false else Begin begins.Exclude)))
+    else Ends (Refused OutOfRange))) (part_topics (if own_ then part.Host page else part.Seq) t v)
+look_leaves moving false large page t v none closed loose = record { leaves = λ may. none; opens = λ may. closed; frames = λ may. loose }
+look_leaves moving true true page t v none closed loose = record { leaves = λ may. none; opens = λ may. closed; frames = λ may. loose }
+look_leaves true true false page t v none closed loose = record { leaves = λ may. none; opens = λ may. closed; frames = λ may. loose }
+look_leaves false true false page t v none closed loose = record { leaves = λ may. none; opens = λ may. closed; frames = λ may. loose }
 
 claim_left_host : (next : ClaimNext) (z : Sizes) (u : Topics) → u.retired ≡ None → u.invalidations.opened ≡ false → RestsAfterClaim Frames next z u
     → RetiresPart (place_after (after_frame_claim next)) u
@@ -80,7 +81,7 @@ pub host_leaves : (p : HostPlace) (page : ℕ) (change : HostChange) (h : Held) 
     → RetiresPart (place.Host p) h.topics → CanAnswer (host_part p page change h) v
     → RetiresPart (place_after (host_outcome p page h v)) (part_topics (host_part p page change h) h.topics v)
 host_leaves (Look moving) page change h v R K left A =
-    look_leaves moving (is_own h.state.sizes h.state.actor page) page h.topics v (left.leaves refl) (left.opens refl) (left.frames refl)
+    look_leaves moving (is_own h.state.sizes h.state.actor page) (maps_large v) page h.topics v (left.leaves refl) (left.opens refl) (left.frames refl)
 host_leaves (Claim begun) page change h v R K left A =
     let M = claim_made h.state.sizes Frames begun h.topics v in
     claim_left_host _ h.state.sizes _ (claim_leaves h.state.sizes Frames begun h.topics v _ _ _ M ∙ left.leaves refl)

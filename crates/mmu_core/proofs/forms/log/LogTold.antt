@@ -32,7 +32,7 @@ use Rattle.mmu_core.specs.lines.ScanPlaces.{HasScan, answer_without, claim_at}
 use Rattle.mmu_core.specs.machine.Outcomes.{place_after}
 use Rattle.mmu_core.proofs.forms.access.AccessEnds.{AreFed}
 use Rattle.mmu_core.proofs.lines.EitherPlace.{either_place}
-use Rattle.mmu_core.proofs.lines.LineClaims.{Claims, ClaimsNot, MayEnd, no_scan_between}
+use Rattle.mmu_core.proofs.lines.LineClaims.{Claims, ClaimsNot, MayEnd, no_scan_between, IsLook}
 use Rattle.mmu_core.proofs.forms.log.LogPlaces.{is_over, log_ends_free, log_plain, log_rises}
 use Rattle.mmu_core.proofs.lines.SimplePlaces.{OfLog, SimplePlace, none_raised}
 use Rattle.mmu_core.proofs.machine.GoesOn.{GoesToSimple, GoesUnderWay, simple_is_no_access}
@@ -179,16 +179,16 @@ peek_note false words = refl
 module _ (command : Command) (h : Held) (v : ℕ) where
   abbrev Notes : LogPlace → Type 0
   Notes p =
-      (log_note p h command ≡ ends_with (after_log (log_next p command h v) (log_reads p command h v))) ⊎ MayEnd (place.Log p) command h v
+      (log_note p h command ≡ ends_with (after_log (log_next p command h v) (log_reads p command h v))) ⊎ MayEnd (place.Log p) command h v ⊎ IsLook (place.Log p)
 
   -- It may end with the look at the last virtual processor, and doesn't where this has yet to flush.
   await_note : (waits last : Bool) → is_some (log_read command) ≡ true → has_to_flush v ≡ waits → awaits_last h ≡ last → Notes Await
-  await_note true true reads waits last = inr (record {
+  await_note true true reads waits last = inr (inl (record {
     reads = reads;
     note = rw last refl;
     goes = rw waits refl;
     waits = waits;
-  })
+  }))
   await_note true false reads waits last = inl (rw (waits, last) refl)
   await_note false true reads waits last = inl (rw (waits, last) refl)
   await_note false false reads waits last = inl (rw (waits, last) refl)

@@ -32,7 +32,7 @@ use Rattle.part_steps.specs.ControlTopics.{count_checked}
 use Rattle.part_steps.specs.PageTopics.{filled_more}
 use Rattle.part_steps.specs.PartBounds.{PartRests}
 use Rattle.part_steps.specs.LogHoldings.{log_begin, log_end}
-use Rattle.part_steps.specs.PartHoldings.{MayGiveOld, OwnsSet, next_watched, own_open}
+use Rattle.part_steps.specs.SetHoldings.{MayGiveOld, OwnsSet, next_watched, own_open}
 use Rattle.part_steps.specs.PartTasks.{own_index, page_retired, words_filled}
 use Rattle.part_steps.specs.PartTopics.{part_topics}
 use Rattle.part_steps.specs.SetWords.{set_role}

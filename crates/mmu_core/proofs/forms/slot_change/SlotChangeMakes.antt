@@ -3,7 +3,7 @@ use Rattle.core_views.specs.Sizes.{actors_of}
 use Rattle.part_steps.specs.declared.invalidations.Target.TheVariants as aim
 use Rattle.part_steps.specs.declared.part_step.PartStep.{PartStep}
 use Rattle.part_steps.specs.declared.part_step.PartStep.TheVariants as part
-use Rattle.part_steps.specs.PartHoldings.{own_open}
+use Rattle.part_steps.specs.SetHoldings.{own_open}
 use Rattle.mmu_core.specs.orders.ClaimSteps.{Pages}
 use Rattle.mmu_core.specs.orders.InvalidateKnows.{BeginKnows, IsFlushedOut}
 use Rattle.mmu_core.specs.orders.InvalidateSteps.{begin_part}

@@ -29,7 +29,7 @@ use Rattle.part_steps.specs.declared.part_step.PartStep.{PartStep}
 use Rattle.part_steps.specs.declared.part_step.PartStep.TheVariants as part
 use Rattle.part_steps.specs.PageTopics.{filled_more, still_retired}
 use Rattle.part_steps.specs.PartBounds.{PartRests}
-use Rattle.part_steps.specs.PartHoldings.{own_open}
+use Rattle.part_steps.specs.SetHoldings.{own_open}
 use Rattle.part_steps.specs.PartTasks.{words_filled}
 use Rattle.part_steps.specs.PartTopics.{part_topics}
 use Rattle.part_steps.specs.SetWords.{IsFilledWith, set_word}
@@ -79,7 +79,7 @@ module _ (line : Line) (h : Held) (command : Command) (cached : Buffer Translati
       → ClaimMade h.state.sizes Pages begun h.topics v step next u → change_at_once z command h.slots ≡ None
       → Holds z pool set (place_after (after_set_claim next)) command (behind (Claim begun) u)
   claim_holds z pool set begun _ _ _ (made.Won tries b some is) e =
-      record { works = e; filled = none_filled pool (set_word (slots_after command h.slots)) (page_won h.topics.claim) refl }
+      record { works = e; filled = none_filled pool (set_word (slots_after command h.slots)) (page_won h.topics.walk h.topics.claim) refl }
   claim_holds z pool set begun _ _ _ (made.SawNone not_ le) e = tt
   claim_holds z pool set begun _ _ _ _ e = e
 

@@ -17,7 +17,7 @@ use Rattle.spte_words.specs.Entries.{kind_of, with_write, without_write}
 use Rattle.spte_words.specs.HostWords.{host_allows_write, host_present}
 use Rattle.mmu_core.specs.forms.access.FaultSteps.{allows_access, entry_word}
 use Rattle.part_steps.specs.PartTasks.{word_looked}
-use Rattle.part_steps.specs.PartHoldings.{FoundSlot, IsFresh, LookedUp, SawEntry, is_fixable}
+use Rattle.part_steps.specs.PartHoldings.{FoundSlot, IsFresh, LookedUp, SawEntry, is_fixable, takes_table}
 
 -- In a section, with no page, and no mark owed; without the lock, or sharing it.
 pub record InSection (t : Topics) : Type 0 where
@@ -61,21 +61,21 @@ pub record Entering (gfn : ℕ) (write : Bool) (t : Topics) : Type 0 where
   pub sharing : Sharing gfn write t
   pub fresh : IsFresh gfn t.invalidations
 
--- The guest frame's entry in a table above the lowest level was loaded, and is absent.
-pub record SawAbsentEntry (gfn : ℕ) (t : Topics) : Type 0 where
+-- The guest frame's entry in a table above the lowest level was loaded, and is absent, or a large leaf.
+pub record SawUpperEnd (gfn : ℕ) (t : Topics) : Type 0 where
   pub saw : SawEntry gfn t.walk
   pub upper : 2 ≤ t.walk.level
-  pub absent : kind_of t.walk.level t.walk.entry ≡ entry_kind.Absent
+  pub takes : takes_table (kind_of t.walk.level t.walk.entry) ≡ true
 
--- An entry of the lowest level that allows the access was seen, or put, at the guest frame.
+-- A leaf that allows the access was seen, or put, at the guest frame.
 pub record HasEntry (gfn : ℕ) (write : Bool) (t : Topics) : Type 0 where
   pub saw : SawEntry gfn t.walk
-  pub lowest : t.walk.level ≡ 1
-  pub leaf : kind_of 1 t.walk.entry ≡ entry_kind.Leaf
+  pub leaf : kind_of t.walk.level t.walk.entry ≡ entry_kind.Leaf
   pub allows : allows_access write t.walk.entry ≡ true
 
--- The entry is what allowing the write makes of a leaf that forbids nothing but it.
-pub record IsFixed (entry : ℕ) : Type 0 where
+-- The entry is what allowing the write makes of a leaf of the lowest level that forbids nothing but it.
+pub record IsFixed (level entry : ℕ) : Type 0 where
+  pub lowest : level ≡ 1
   pub fixable : is_fixable (without_write entry) ≡ true
   pub set : with_write (without_write entry) ≡ entry
 
@@ -84,7 +84,7 @@ pub record IsFixed (entry : ℕ) : Type 0 where
 pub record HasFixed (marked : Bool) (gfn : ℕ) (write : Bool) (t : Topics) : Type 0 where
   pub found : FoundSlot gfn t
   pub entry : HasEntry gfn write t
-  pub fixed : IsFixed t.walk.entry
+  pub fixed : IsFixed t.walk.level t.walk.entry
   pub marks : marked ≡ t.search.logged
 
 -- Its exchange was lost: this word is the guest frame's entry of the lowest level, which was read as a leaf that forbids nothing but the write, and was seen as

@@ -1,5 +1,5 @@
 -- What a fault knows at each of its places, from what its actor holds alone.
-use Rattle.std.specs.Prelude.{◌≡◌, ◌≢◌, ◌-◌, ◌<◌, ◌≤◌, ◌⊎◌, ℕ, Bool, true, false, ◌&&◌, ◌||◌, ◌==◌, not, Some, None, if◌then◌else◌}
+use Rattle.std.specs.Prelude.{◌≡◌, ◌≢◌, ◌<◌, ◌≤◌, ◌⊎◌, ℕ, Bool, true, false, ◌&&◌, ◌||◌, ◌==◌, not, Some, None, if◌then◌else◌}
 use Rattle.core_views.specs.declared.place.Cause.{Cause}
 use Rattle.core_views.specs.declared.place.Cause.TheVariants.{Open, Moved, Entry}
 use Rattle.core_views.specs.declared.place.FaultEnd.{FaultEnd}
@@ -21,11 +21,11 @@ use Rattle.spte_words.specs.Entries.{can_write, host_writable, kind_of, mmu_writ
 use Rattle.spte_words.specs.HostWords.{host_allows_write}
 pub use Rattle.mmu_core.specs.orders.ShareSteps.{is_trying}
 pub use Rattle.mmu_core.specs.forms.access.FaultHolds.{CheckKnows, Entering, FoundNone, HasEntry, HasFixed, InSection, IsFixed, IsLost, IsLostFix}
-pub use Rattle.mmu_core.specs.forms.access.FaultHolds.{LookedFor, SawAbsentEntry, Sharing, WithoutLock}
+pub use Rattle.mmu_core.specs.forms.access.FaultHolds.{LookedFor, SawUpperEnd, Sharing, WithoutLock}
 use Rattle.mmu_core.specs.forms.access.FaultSteps.{entry_word, host_word_at}
-use Rattle.part_steps.specs.PartTasks.{is_absent, word_looked}
+use Rattle.part_steps.specs.PartTasks.{is_below, word_looked}
 use Rattle.part_steps.specs.PartHoldings.{FoundSlot, HasRoleToSet, HasToFill, HoldsSet, IsOver, LookedUp, MayFix, OwnsPage, OwnsTable, SawEntry}
-use Rattle.part_steps.specs.PartHoldings.{SawNoWrites}
+use Rattle.part_steps.specs.PartHoldings.{IsEnd, MapsRun, SawNoWrites}
 use Rattle.part_steps.specs.PartSteps.{IsAtRest}
 
 -- In a section of a fast fault, without the lock, after the slot was found.
@@ -43,8 +43,9 @@ pub record Marks (fast : Bool) (gfn : ℕ) (write : Bool) (t : Topics) : Type 0 
   pub owes : t.owed ≡ Some gfn
   pub found : FoundSlot gfn t
   pub entry : HasEntry gfn write t
+  pub lowest : t.walk.level ≡ 1
   pub logged : t.search.logged ≡ true
-  pub fixed : fast ≡ true → IsFixed t.walk.entry
+  pub fixed : fast ≡ true → IsFixed t.walk.level t.walk.entry
 
 -- The entry is no leaf of the lowest level, or allows the write already; or slot or host may forbid this.
 abbrev pub forbids_more : SpteKind → ℕ → ℕ → Bool
@@ -67,13 +68,12 @@ pub record HostForbids (gfn : ℕ) (write : Bool) (t : Topics) : Type 0 where
 abbrev pub FoundNoPage : ℕ → Bool → Topics → Type 0
 FoundNoPage gfn write t = ((write ≡ true) × FoundSlot gfn t × (t.search.slot.read_only ≡ true)) ⊎ FoundNone gfn t
 
--- This word is the guest frame's entry in the walk's table, and was seen so. It isn't what was read of it before, or it is frozen, or a
--- leaf above the lowest level.
+-- This word is the guest frame's entry in the walk's table, and was seen so. It isn't what was read of it before, or it is frozen.
 pub record IsInTheWay (word read seen : ℕ) (z : Sizes) (gfn : ℕ) (walk : TableWalk) : Type 0 where
   pub saw : SawEntry gfn walk
   pub is_entry : word ≡ entry_word z gfn walk
   pub holds : walk.entry ≡ seen
-  pub why : (read ≢ seen) ⊎ (kind_of walk.level seen ≡ entry_kind.Frozen) ⊎ ((kind_of walk.level seen ≡ entry_kind.Leaf) × (2 ≤ walk.level))
+  pub why : (read ≢ seen) ⊎ (kind_of walk.level seen ≡ entry_kind.Frozen)
 
 -- This word is the host word of the page behind the guest frame, and was seen so; and it isn't what was read of it before.
 pub record IsHostWordMoved (word read seen : ℕ) (z : Sizes) (gfn : ℕ) (t : Topics) : Type 0 where
@@ -119,12 +119,12 @@ FaultKnows Bring z gfn write t = WithoutLock t × LookedFor false gfn write t
 FaultKnows Share z gfn write t = InSection t × (is_trying t.hold ≡ true) × LookedFor true gfn write t
 FaultKnows (Check at) z gfn write t = Sharing gfn write t × (t.owned ≡ None) × CheckKnows at gfn t.invalidations
 FaultKnows (Walk rooted) z gfn write t = Entering gfn write t × (t.owned ≡ None) × (rooted ≡ true → IsOver gfn t.walk)
-FaultKnows (Claim begun) z gfn write t = Entering gfn write t × (t.owned ≡ None) × SawAbsentEntry gfn t × (begun ≡ true → t.claim.at < words_of_bits z.pool)
-FaultKnows Fill z gfn write t = Entering gfn write t × SawAbsentEntry gfn t × HasToFill t × (is_absent t.owned ≡ true)
-FaultKnows Role z gfn write t = Entering gfn write t × SawAbsentEntry gfn t × HasRoleToSet t × (is_absent t.owned ≡ true)
-FaultKnows Link z gfn write t = Entering gfn write t × SawAbsentEntry gfn t × OwnsTable (t.walk.level - 1) t
+FaultKnows (Claim begun) z gfn write t = Entering gfn write t × (t.owned ≡ None) × SawUpperEnd gfn t × (begun ≡ true → t.claim.at < words_of_bits z.pool)
+FaultKnows Fill z gfn write t = Entering gfn write t × SawUpperEnd gfn t × HasToFill t × (is_below t.walk t.owned ≡ true)
+FaultKnows Role z gfn write t = Entering gfn write t × SawUpperEnd gfn t × HasRoleToSet t × (is_below t.walk t.owned ≡ true)
+FaultKnows Link z gfn write t = Entering gfn write t × SawUpperEnd gfn t × OwnsTable t
 FaultKnows (Leaf writes) z gfn write t =
-    Entering gfn write t × (t.owned ≡ None) × SawEntry gfn t.walk × (t.walk.level ≡ 1) × (writes ≡ write) × SawNoWrites t.walk
+    Entering gfn write t × (t.owned ≡ None) × SawEntry gfn t.walk × MapsRun gfn t × (writes ≡ write) × SawNoWrites t.walk × IsEnd t.walk.level t.walk.entry
 FaultKnows (Give e) z gfn write t = (t.stay ≡ Section) × (t.hold ≡ Shared) × OwnsPage t × (t.owed ≡ None) × FaultEndKnows e z gfn write t × IsRetry e
 FaultKnows (Unshare e) z gfn write t = InSection t × (t.hold ≡ Shared) × FaultEndKnows e z gfn write t
 FaultKnows (End e) z gfn write t = InSection t × (t.hold ≡ Loose) × FaultEndKnows e z gfn write t

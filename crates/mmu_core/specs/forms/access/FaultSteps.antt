@@ -1,8 +1,9 @@
 -- The order of steps of a fault (tdp_mmu.c, kvm_tdp_mmu_map; locking.rst): in a section the snapshot, the slot of the guest frame and the
 -- host word of its page, which it brings in where it isn't present; then, sharing the lock, the check of the snapshot, and from the root down
--- each level's entry: a link leads down, an absent entry gets a table of its own, and at the lowest level the leaf. Where a leaf stands that forbids the
--- write, a fast fault comes first (locking.rst, "Fast page fault"): in a section, without the lock, it finds the slot and the leaf, and allows the write in
--- this very word. Who has allowed writes in a slot with a dirty log marks the page after it, in the same section.
+-- each level's entry. A link leads down. At the greatest level at which host and slot allow a leaf over the guest frame, or below it where tables are in the
+-- way, the leaf is put (mmu.rst, "Large pages"). Above it an absent entry gets a table of its own, and a leaf that forbids the access a table of its children.
+-- Where a leaf stands that forbids the write, a fast fault comes first (locking.rst, "Fast page fault"): in a section, without the lock, it finds the slot and
+-- the leaf, and allows the write in this very word. Who has allowed writes in a slot with a dirty log marks the page after it, in the same section.
 use Rattle.std.specs.Prelude.{◌+◌, ◌-◌, ℕ, Bool, true, false, ◌==◌, ◌&&◌, ◌||◌, nat_lt, not, if◌then◌else◌, Option}
 use Rattle.core_views.specs.declared.place.Cause.TheVariants.{Entry}
 use Rattle.core_views.specs.declared.place.CheckStage.TheVariants as stage
@@ -23,11 +24,12 @@ use Rattle.spte_words.specs.declared.area.Area.TheVariants as area
 use Rattle.spte_words.specs.declared.spte_kind.SpteKind.{SpteKind}
 use Rattle.spte_words.specs.declared.spte_kind.SpteKind.TheVariants as entry_kind
 use Rattle.spte_words.specs.Areas.{place, pool_index}
-use Rattle.spte_words.specs.Entries.{can_write, kind_of}
+use Rattle.spte_words.specs.Entries.{can_write, kind_of, word_below}
 use Rattle.spte_words.specs.HostWords.{host_allows_write, host_present}
 use Rattle.part_steps.specs.declared.part_step.PartStep.{PartStep}
 use Rattle.part_steps.specs.declared.part_step.PartStep.TheVariants as part
 use Rattle.part_steps.specs.PartTasks.{entry_index, page_looked, table_page, word_looked, words_filled}
+use Rattle.part_steps.specs.RunHoldings.{maps_run}
 use Rattle.mmu_core.specs.declared.claim.ClaimNext.{ClaimNext}
 use Rattle.mmu_core.specs.declared.claim.ClaimNext.TheVariants as claims
 use Rattle.mmu_core.specs.declared.share.ShareNext.{ShareNext}
@@ -41,7 +43,8 @@ pub use Rattle.mmu_core.specs.orders.ClaimSteps.{Pages, claim_left, claim_next, 
 pub use Rattle.mmu_core.specs.lines.PartWaits.{is_owing}
 pub use Rattle.mmu_core.specs.orders.ShareSteps.{share_left, share_next, share_part}
 
--- the step of each place; a table's page is filled with 512 absent entries, and its role is one level below the walk's table
+-- the step of each place; a table's page is filled with 512 absent entries, or the children of the leaf that it takes the place of, and its role is one level
+-- below the walk's table
 abbrev pub fault_part : FaultPlace → ℕ → Topics → PartStep
 fault_part Begin gfn t = part.Begin
 fault_part Snapshot gfn t = part.Seq
@@ -52,7 +55,7 @@ fault_part Share gfn t = share_part t.hold
 fault_part (Check at) gfn t = check_part at
 fault_part (Walk rooted) gfn t = if rooted then part.Walk gfn else part.Root
 fault_part (Claim begun) gfn t = claim_part Pages begun t.claim
-fault_part Fill gfn t = part.Fill 0
+fault_part Fill gfn t = part.Fill (word_below t.walk.level t.walk.entry (words_filled t.owned))
 fault_part Role gfn t = part.Role (t.walk.level - 1)
 fault_part Link gfn t = part.Link gfn
 fault_part (Give e) gfn t = part.Give
@@ -92,13 +95,16 @@ entry_word z gfn walk = place (map_of z) area.Pool (pool_index (table_page walk)
 abbrev pub allows_access : Bool → ℕ → Bool
 allows_access write w = not write || can_write w
 
--- after an entry v of the walk's table: no leaf stands above the lowest level yet
-abbrev pub walk_next : SpteKind → Sizes → ℕ → Bool → TableWalk → ℕ → FaultPlace
-walk_next (entry_kind.Table page) z gfn write walk v = Walk true
-walk_next entry_kind.Leaf z gfn write walk v =
-    if walk.level == 1 then (if allows_access write v then Unshare Installed else Leaf write) else Unshare (Retry false (Entry (entry_word z gfn walk) v v))
-walk_next entry_kind.Absent z gfn write walk v = if walk.level == 1 then Leaf write else Claim false
-walk_next entry_kind.Frozen z gfn write walk v = Unshare (Retry false (Entry (entry_word z gfn walk) v v))
+-- at an entry in which nothing is mapped, or a leaf that forbids the access: a leaf of this level is put, or a table is to be linked
+abbrev pub end_next : ℕ → Bool → Topics → FaultPlace
+end_next gfn write t = if maps_run t.walk.level gfn t then Leaf write else Claim false
+
+-- after an entry v of the walk's table
+abbrev pub walk_next : SpteKind → Sizes → ℕ → Bool → Topics → ℕ → FaultPlace
+walk_next (entry_kind.Table page) z gfn write t v = Walk true
+walk_next entry_kind.Leaf z gfn write t v = if allows_access write v then Unshare Installed else end_next gfn write t
+walk_next entry_kind.Absent z gfn write t v = end_next gfn write t
+walk_next entry_kind.Frozen z gfn write t v = Unshare (Retry false (Entry (entry_word z gfn t.walk) v v))
 
 -- after its exchange that is lost, which found v
 abbrev pub exchange_lost : Bool → Sizes → ℕ → TableWalk → ℕ → FaultEnd
@@ -119,7 +125,7 @@ fault_next Host z gfn write t v = Goes (page_next write v)
 fault_next Bring z gfn write t v = Goes (if v == word_looked t.host then Share else End (Retry false (Entry (host_word_at z t.host) (word_looked t.host) v)))
 fault_next Share z gfn write t v = Goes (after_share (share_next t.hold v))
 fault_next (Check at) z gfn write t v = Goes (check_next at gfn t v)
-fault_next (Walk rooted) z gfn write t v = Goes (if rooted then walk_next (kind_of t.walk.level v) z gfn write t.walk v else Walk true)
+fault_next (Walk rooted) z gfn write t v = Goes (if rooted then walk_next (kind_of t.walk.level v) z gfn write t v else Walk true)
 fault_next (Claim begun) z gfn write t v = Goes (after_claim (claim_next Pages begun z t.claim v))
 fault_next Fill z gfn write t v = Goes (if nat_lt (words_filled t.owned + 1) 512 then Fill else Role)
 fault_next Role z gfn write t v = Goes Link

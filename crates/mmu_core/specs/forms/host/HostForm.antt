@@ -6,7 +6,8 @@ use Rattle.part_steps.specs.declared.part_step.PartStep.TheVariants as part
 use Rattle.part_steps.specs.PartSteps.{PartNeeds}
 use Rattle.mmu_core.specs.declared.outcome.Outcome.TheVariants.{Goes}
 use Rattle.mmu_core.specs.forms.host.HostKnows.{HostKnows, HostRests, host_opens, host_owns_frame}
-use Rattle.mmu_core.specs.forms.host.HostSteps.{host_left, host_note, host_outcome, host_part, host_tells}
+use Rattle.mmu_core.specs.forms.host.HostSteps.{host_note, host_outcome, host_part, host_tells}
+use Rattle.mmu_core.specs.forms.host.HostLeft.{host_left}
 use Rattle.mmu_core.specs.lines.Form.{Form, of_change, plain_form}
 
 abbrev pub host_form : HostPlace → Form

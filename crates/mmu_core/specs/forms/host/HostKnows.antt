@@ -16,11 +16,12 @@ use Rattle.part_steps.specs.InvalidationRange.{IsOnRun}
 use Rattle.part_steps.specs.FrameHoldings.{MayGiveFrame}
 use Rattle.part_steps.specs.FrameTopics.{copy_held, is_uncopied, words_moved}
 use Rattle.part_steps.specs.PartSteps.{IsAtRest}
-use Rattle.part_steps.specs.PartTasks.{page_looked}
+use Rattle.part_steps.specs.PartTasks.{page_looked, word_looked}
 use Rattle.mmu_core.specs.orders.InvalidateKnows.{BeginKnows, EndKnows, IsOpen}
 use Rattle.mmu_core.specs.orders.InvalidateSteps.{is_among_open}
 use Rattle.mmu_core.specs.lines.PartWaits.{saw_open}
 use Rattle.mmu_core.specs.orders.WatchSteps.{looked_at}
+use Rattle.mmu_core.specs.forms.host.HostSteps.{maps_large}
 
 abbrev pub is_move : HostChange → Bool
 is_move Move = true
@@ -31,6 +32,10 @@ pub record LooksAt (page : ℕ) (h : Held) : Type 0 where
   pub own_ : is_own h.state.sizes h.state.actor page ≡ true
   pub looked : is_some h.topics.host ≡ true
   pub at : page_looked h.topics.host ≡ page
+
+-- It saw that the page is a small one.
+abbrev pub SawSmall : Held → Type 0
+SawSmall h = maps_large (word_looked h.topics.host) ≡ false
 
 -- Its invalidation of the page is open, and each virtual processor was asked for a flush, and awaited.
 pub record HasFlushed (page : ℕ) (h : Held) : Type 0 where
@@ -77,9 +82,10 @@ HostRests _ h = Unit {0}
 abbrev pub HostKnows : HostPlace → ℕ → HostChange → Held → Type 0
 HostKnows (Look moves) page change h = IsAtRest h.topics × (moves ≡ is_move change) × (h.topics.frames.owned ≡ None)
 HostKnows (Claim begun) page change h =
-    IsAtRest h.topics × LooksAt page h × ClaimsFrame begun change h.topics.frames (words_of_bits h.state.sizes.frames)
+    IsAtRest h.topics × LooksAt page h × ClaimsFrame begun change h.topics.frames (words_of_bits h.state.sizes.frames) × SawSmall h
 HostKnows (Begin p) page change h =
     LooksAt page h × BeginKnows p h.state.sizes (aim.Page page) h.topics × OwnsToMove change h.topics.frames.owned × (h.topics.owned ≡ None)
+    × SawSmall h
 HostKnows Copy page change h = LooksAt page h × HasFlushed page h × IsCopying change h.topics.frames.owned h.state.sizes.words
 HostKnows Store page change h =
     LooksAt page h × HasFlushed page h × IsCopying change h.topics.frames.owned h.state.sizes.words

@@ -1,9 +1,10 @@
--- The order of steps of a line that changes a host page (mmu_notifier.rst; api.rst, KVM_CAP_SYNC_MMU): it looks at the page's host word, and is
--- refused where the page isn't the actor's own; within an invalidation of the guest frame that slots give to the page it exchanges the word. A line that moves
--- the page (page_migration.rst) claims a frame before, copies the page's words into it within the invalidation, and after a watch gives the old frame back.
-use Rattle.std.specs.Prelude.{◌+◌, ◌-◌, ◌*◌, ℕ, Bool, true, false, List, [], ◌∷◌, Option, None, is_some, ◌==◌, nat_lt, if◌then◌else◌}
+-- The order of steps of a line that changes a host page (mmu_notifier.rst; api.rst, KVM_CAP_SYNC_MMU): it looks at the page's host word, and is refused
+-- where the page isn't the actor's own, or is part of a large one (mmu.rst, "Large pages"); within an invalidation of the guest frame that slots give to
+-- the page it exchanges the word. A line that moves the page (page_migration.rst) claims a frame before, copies the page's words into it within the
+-- invalidation, and after a watch gives the old frame back.
+use Rattle.std.specs.Prelude.{◌+◌, ◌*◌, ℕ, Bool, true, false, List, [], ◌∷◌, is_some, ◌==◌, nat_lt, if◌then◌else◌}
 use Rattle.core_views.specs.declared.answer.Answer.TheVariants.{Done, Moved, Refused}
-use Rattle.core_views.specs.declared.answer.Refusal.TheVariants.{NoFrame, OutOfRange}
+use Rattle.core_views.specs.declared.answer.Refusal.TheVariants.{IsHuge, NoFrame, OutOfRange}
 use Rattle.core_views.specs.declared.event.EventKind.{EventKind}
 use Rattle.core_views.specs.declared.event.EventKind.TheVariants.{HostChanged, LookedAtHost}
 use Rattle.core_views.specs.declared.host.HostEntry.{HostEntry}
@@ -12,13 +13,10 @@ use Rattle.core_views.specs.declared.place.EndPlace.TheVariants as ends
 use Rattle.core_views.specs.declared.place.HostPlace.{HostPlace}
 use Rattle.core_views.specs.declared.place.HostPlace.TheVariants.{Look, Claim, Begin, Copy, Store, Change, End, Watch, Free}
 use Rattle.core_views.specs.declared.place.Place.TheVariants.{Host}
-use Rattle.core_views.specs.declared.sizes.Sizes.{Sizes}
 use Rattle.core_views.specs.declared.trace.HostChange.{HostChange}
 use Rattle.core_views.specs.declared.trace.HostChange.TheVariants.{Allow, Evict, Move, Protect}
 use Rattle.core_views.specs.declared.topics.Topics.{Topics}
-use Rattle.core_views.specs.declared.topics.OwnedFrame.{OwnedFrame}
 use Rattle.core_views.specs.Held.{Held}
-use Rattle.core_views.specs.Sizes.{actors_of}
 use Rattle.core_views.specs.HostChanges.{is_own}
 use Rattle.mmu_core.specs.declared.invalidate.BeginNext.{BeginNext}
 use Rattle.mmu_core.specs.declared.invalidate.BeginNext.TheVariants as begins_next
@@ -32,14 +30,13 @@ use Rattle.part_steps.specs.declared.part_step.PartStep.TheVariants as part
 use Rattle.part_steps.specs.FrameTopics.{frame_owned, words_moved}
 use Rattle.part_steps.specs.PartTasks.{word_looked}
 use Rattle.spte_words.specs.HostWords.{host_allows_write, host_frame, host_level, host_present, with_frame, with_presence, with_writes}
-use Rattle.spte_words.specs.Areas.{words_of_bits}
 use Rattle.mmu_core.specs.declared.claim.ClaimNext.{ClaimNext}
 use Rattle.mmu_core.specs.declared.watch.WatchNext.{WatchNext}
 use Rattle.mmu_core.specs.forms.access.AccessSteps.{exiting}
-use Rattle.mmu_core.specs.orders.ClaimSteps.{Frames, claim_left, claim_next, claim_outcome, claim_part, loads_last_word}
+use Rattle.mmu_core.specs.orders.ClaimSteps.{Frames, claim_next, claim_outcome, claim_part, loads_last_word}
 use Rattle.mmu_core.specs.orders.WatchSteps.{looked_at, watch_next, watch_place}
-use Rattle.mmu_core.specs.orders.InvalidateLeft.{begin_left, end_left}
 use Rattle.mmu_core.specs.orders.InvalidateSteps.{begin_next, begin_part, end_next, end_part}
+use Rattle.core_views.specs.Host.{is_huge}
 
 -- the entry that a host word is
 abbrev pub entry_of : ℕ → HostEntry
@@ -81,11 +78,19 @@ host_part Free page change h = part.GiveFrame
 
 -- 1 where the line may end with the step
 abbrev pub host_note : HostPlace → ℕ → Held → ℕ
-host_note (Look moves) page h = if is_own h.state.sizes h.state.actor page then 0 else 1
+host_note (Look moves) page h = 1
 host_note (Claim begun) page h = if loads_last_word Frames begun h.state.sizes h.topics.frames.claim then 1 else 0
 host_note (End ends.Release) page h = if moves h.topics then 0 else 1
 host_note Free page h = 1
 host_note _ page h = 0
+
+-- The word maps its page as part of a large one.
+abbrev pub maps_large : ℕ → Bool
+maps_large word = is_huge (entry_of word)
+
+-- after the look at its own page, which found v
+abbrev pub after_look : Bool → ℕ → Outcome
+after_look moves v = if maps_large v then Ends (Refused IsHuge) else Goes (Host (if moves then Claim false else Begin begins.Exclude))
 
 -- after a step of its claim: the invalidation begins, or the line is refused, since no frame is free
 abbrev pub after_frame_claim : ClaimNext → Outcome
@@ -106,8 +111,7 @@ after_frame_watch next = watch_place Watch Free next
 
 -- where the line stands after the step of its place, which found v
 abbrev pub host_outcome : HostPlace → ℕ → Held → ℕ → Outcome
-host_outcome (Look moves) page h v =
-    if is_own h.state.sizes h.state.actor page then Goes (Host (if moves then Claim false else Begin begins.Exclude)) else Ends (Refused OutOfRange)
+host_outcome (Look moves) page h v = if is_own h.state.sizes h.state.actor page then after_look moves v else Ends (Refused OutOfRange)
 host_outcome (Claim begun) page h v = after_frame_claim (claim_next Frames begun h.state.sizes h.topics.frames.claim v)
 host_outcome (Begin p) page h v = Goes (Host (after_begin (moves h.topics) (begin_next p h.state.sizes (aim.Page page) h.topics v)))
 host_outcome Copy page h v = Goes (Host Store)
@@ -117,29 +121,10 @@ host_outcome (End p) page h v = after_end (moves h.topics) (end_next p v)
 host_outcome Watch page h v = Goes (Host (after_frame_watch (watch_next h v)))
 host_outcome Free page h v = Ends (Moved (host_frame (word_looked h.topics.host)))
 
--- What a step tells besides that its line begins or is answered: that it looked at its page, that it is refused a frame, and that it changed the page.
+-- What a step tells besides that its line begins or is answered: that it looked at its page, that it is refused for what it saw, or a frame, and that it
+-- changed the page.
 abbrev pub host_tells : HostPlace → ℕ → HostChange → Held → ℕ → List EventKind
 host_tells (Claim begun) page change h v = exiting (host_outcome (Claim begun) page h v)
-host_tells (Look moves) page change h v = if is_own h.state.sizes h.state.actor page then LookedAtHost page ∷ [] else []
+host_tells (Look moves) page change h v = if is_own h.state.sizes h.state.actor page then LookedAtHost page ∷ exiting (after_look moves v) else []
 host_tells Change page change h v = if v == word_looked h.topics.host then HostChanged page (entry_of (word_put change h.topics)) ∷ [] else []
 host_tells _ page change h v = []
-
--- how many steps are left of the copy: two for each word; and after the end of the invalidation, where the page was moved: a look at each actor, and one that
--- gives the old frame back
-abbrev pub copies_left : Sizes → Option OwnedFrame → ℕ
-copies_left z owned = 2 * (z.words - words_moved owned)
-
-abbrev pub frees_left : Bool → Sizes → ℕ
-frees_left moves z = if moves then 1 + actors_of z else 0
-
--- The most steps that it has left. Its exchange of a page that it saw absent is lost where an access has brought the page in; then it makes one more.
-abbrev pub host_left : HostPlace → Sizes → Topics → ℕ
-host_left (Look moves) z t = 2 * z.vcpus + 152 + (if moves then words_of_bits z.frames + 1 + copies_left z None + frees_left true z else 0)
-host_left (Claim begun) z t = 2 * z.vcpus + 151 + copies_left z None + frees_left true z + claim_left Frames begun z t.frames.claim
-host_left (Begin p) z t = begin_left p z 1 t + 8 + (if moves t then copies_left z None else 0) + frees_left (moves t) z
-host_left Copy z t = 8 + copies_left z t.frames.owned + frees_left true z
-host_left Store z t = 7 + copies_left z t.frames.owned + frees_left true z
-host_left Change z t = 7 + (if host_present (word_looked t.host) then 0 else 1) + frees_left (moves t) z
-host_left (End p) z t = end_left p + frees_left (moves t) z
-host_left Watch z t = 1 + (actors_of z - t.watched)
-host_left Free z t = 1

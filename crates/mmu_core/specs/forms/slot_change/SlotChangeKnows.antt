@@ -21,7 +21,8 @@ use Rattle.core_views.specs.Sizes.{actors_of}
 use Rattle.spte_words.specs.Areas.{words_of_bits}
 use Rattle.part_steps.specs.InvalidationRange.{IsSmall}
 use Rattle.part_steps.specs.LockHoldings.{HasFlushedAll}
-use Rattle.part_steps.specs.PartHoldings.{HasRoleToSet, HasToFill, MayGiveOld, MayPublish, OwnsSet}
+use Rattle.part_steps.specs.PartHoldings.{HasRoleToSet, HasToFill}
+use Rattle.part_steps.specs.SetHoldings.{MayGiveOld, MayPublish, OwnsSet}
 use Rattle.part_steps.specs.PartSteps.{IsAtRest}
 use Rattle.part_steps.specs.SetWords.{IsFilledWith}
 pub use Rattle.mmu_core.specs.lines.LockKnows.{HoldsLock}

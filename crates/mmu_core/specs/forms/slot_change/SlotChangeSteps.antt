@@ -28,7 +28,7 @@ use Rattle.part_steps.specs.declared.task.Task.{Task}
 use Rattle.part_steps.specs.declared.part_step.PartStep.{PartStep}
 use Rattle.part_steps.specs.declared.part_step.PartStep.TheVariants as part
 use Rattle.part_steps.specs.LogHoldings.{log_end}
-use Rattle.part_steps.specs.PartHoldings.{own_open}
+use Rattle.part_steps.specs.SetHoldings.{own_open}
 use Rattle.part_steps.specs.PartTasks.{own_index, part_task, words_filled}
 use Rattle.mmu_core.specs.declared.invalidate.BeginNext.{BeginNext}
 use Rattle.mmu_core.specs.declared.invalidate.BeginNext.TheVariants as begins_next

@@ -1,8 +1,7 @@
 -- What a fault has seen at each of its places it has seen after its own step.
 use Rattle.std.proofs.Common.{◌≡◌, ◌≢◌, inl, inr, ◌<◌, ◌≤◌, ℕ, List, [], ◌∷◌, ◌++◌, refl, sym, subst, ap, ◌∙◌, arith, ◌+◌}
-use Rattle.std.specs.Prelude.{Bool, true, false, ◌==◌, ◌&&◌, nat_le, nat_lt, not, if◌then◌else◌, slice_index, Some}
+use Rattle.std.specs.Prelude.{Bool, true, false, ◌==◌, ◌&&◌, nat_le, nat_lt, not, if◌then◌else◌, slice_index, Some, None, Option}
 use Rattle.std.proofs.lemmas.Bool.{eqb-false}
-use Rattle.std.proofs.lemmas.Bool.Decides.{nat_tests}
 use Rattle.core_views.specs.declared.kind.Kind.{Kind}
 use Rattle.core_views.specs.declared.place.Cause.TheVariants.{Open, Moved, Entry}
 use Rattle.core_views.specs.declared.place.CheckStage.{CheckStage}
@@ -23,7 +22,7 @@ use Rattle.spte_words.specs.declared.area.Area.TheVariants as area
 use Rattle.spte_words.specs.declared.spte_kind.SpteKind.{SpteKind}
 use Rattle.spte_words.specs.declared.spte_kind.SpteKind.TheVariants as entry_kind
 use Rattle.spte_words.specs.Areas.{place as place_of, pool_index, size_of}
-use Rattle.spte_words.specs.Entries.{kind_of}
+use Rattle.spte_words.specs.Entries.{kind_of, word_below}
 use Rattle.spte_words.specs.HostWords.{host_allows_write, host_present}
 use Rattle.spte_words.proofs.Indices.{pool_within}
 use Rattle.part_steps.specs.declared.part_step.PartStep.{PartStep}
@@ -34,7 +33,7 @@ use Rattle.mmu_core.specs.declared.claim.ClaimNext.{ClaimNext}
 use Rattle.mmu_core.specs.declared.claim.ClaimNext.TheVariants as claims
 use Rattle.mmu_core.specs.forms.access.FaultKnows.{CheckKnows, FaultKnows, is_trying}
 use Rattle.mmu_core.specs.forms.access.FaultSteps.{after_claim, after_share, allows_access, check_next, check_part, entry_word, fault_next, host_word_at}
-use Rattle.mmu_core.specs.forms.access.FaultSteps.{fault_part}
+use Rattle.mmu_core.specs.forms.access.FaultSteps.{fault_part, end_next}
 use Rattle.mmu_core.specs.forms.access.FaultSteps.{share_next, share_part, snapshot_taken, walk_next, exchange_lost, fast_walk_next, put_next}
 use Rattle.mmu_core.specs.declared.claim.FreeMap.TheVariants.{Pages}
 use Rattle.mmu_core.specs.orders.ClaimSteps.{claim_next, map_word, tries_one}
@@ -59,6 +58,7 @@ use Rattle.mmu_laws.proofs.causes.MadeSteps.{Makes, exchange_finds, in_machine, 
 use Rattle.mmu_laws.proofs.causes.EntryLoaded.{fill_spares, kinds, low}
 use Rattle.core_views.specs.declared.place.FaultEnd.{FaultEnd}
 use Rattle.part_steps.specs.PartHoldings.{is_fixable}
+use Rattle.part_steps.specs.RunHoldings.{maps_run}
 
 module _ (z : Sizes) (w : World Held) (ss : List (Step Kind)) (s : Step Kind) (G : IsSound z (run mmu w ss)) (may : May mmu (run mmu w ss) s) where
   abbrev a : ℕ
@@ -201,18 +201,18 @@ module _ (z : Sizes) (w : World Held) (ss : List (Step Kind)) (s : Step Kind) (G
   abbrev gone : ℕ → SpteKind → Topics
   gone gfn k = record t { walk = gone_down (linked_page k) t.walk (entry_index gfn t.walk.level) v }
 
-  leaf_saw : (gfn : ℕ) (write : Bool) (b : Bool) → (t.walk.level == 1) ≡ b → kind_of t.walk.level v ≡ entry_kind.Leaf → Made (part.Walk gfn) → FaultSaw z a w
-      (if b then (if allows_access write v then Unshare Installed else Leaf write) else Unshare (Retry false (Entry (entry_word z gfn t.walk) v v))) gfn
-      (gone gfn entry_kind.Leaf) more behind
-  leaf_saw gfn write true is leaf M = either (allows_access write v) (Unshare Installed) (Leaf write) gfn (gone gfn entry_kind.Leaf) tt (entry_now gfn M)
-  leaf_saw gfn write false is leaf M = let one = (kinds z u s G may gfn M).0 leaf in absurd (grind (arith, nat_tests))
+  end_saw : (gfn : ℕ) (write : Bool) (k : SpteKind) → linked_page k ≡ None → Made (part.Walk gfn)
+      → FaultSaw z a w (end_next gfn write t) gfn (gone gfn k) more behind
+  end_saw gfn write k none M =
+      subst (λ (x : Option ℕ). FaultSaw z a w (end_next gfn write t) gfn (record t { walk = gone_down x t.walk (entry_index gfn t.walk.level) v }) more behind)
+      (sym none) (either (maps_run t.walk.level gfn t) (Leaf write) (Claim false) gfn (gone gfn entry_kind.Absent) (entry_now gfn M) (entry_now gfn M))
 
   walk_saw : (gfn : ℕ) (write : Bool) (k : SpteKind) → kind_of t.walk.level v ≡ k → Made (part.Walk gfn)
-      → FaultSaw z a w (walk_next k z gfn write t.walk v) gfn (gone gfn k) more behind
+      → FaultSaw z a w (walk_next k z gfn write t v) gfn (gone gfn k) more behind
   walk_saw gfn write (entry_kind.Table page) is M = tt
-  walk_saw gfn write entry_kind.Leaf is M = leaf_saw gfn write (t.walk.level == 1) refl is M
-  walk_saw gfn write entry_kind.Absent is M =
-      either (t.walk.level == 1) (Leaf write) (Claim false) gfn (gone gfn entry_kind.Absent) (entry_now gfn M) (entry_now gfn M)
+  walk_saw gfn write entry_kind.Leaf is M =
+      either (allows_access write v) (Unshare Installed) (end_next gfn write t) gfn (gone gfn entry_kind.Leaf) tt (end_saw gfn write entry_kind.Leaf refl M)
+  walk_saw gfn write entry_kind.Absent is M = end_saw gfn write entry_kind.Absent refl M
   walk_saw gfn write entry_kind.Frozen is M = absurd ((kinds z u s G may gfn M).1 is)
 
   claim_longer : (gfn : ℕ) (tries : Bool) (word : ℕ) → Made (if tries then part.Claim else part.Map word) → 1 ≤ t.walk.level → EntryIs gfn t.walk.entry ss u
@@ -279,9 +279,9 @@ module _ (z : Sizes) (w : World Held) (ss : List (Step Kind)) (s : Step Kind) (G
       claim_saw gfn (claim_next Pages begun z t.claim v) _ (claim_walk z Pages begun t v _ _ _ (claim_made z Pages begun t v))
       (claim_longer gfn (tries_one begun t.claim) (map_word begun t.claim) M (omega (arith, up)) S)
   own_saw Fill gfn write M K S =
-      let up = K.1.upper in
-      let from : 1 ≤ t.walk.level = omega (arith, up) in
-      let K_ = entry_longer gfn (fault_part Fill gfn t) M from tt (fill_spares z u s G may gfn 0 M.note K.2 from) S in
+      let from : 1 ≤ t.walk.level = let up = K.1.upper in omega (arith, up) in
+      let K_ = entry_longer gfn (fault_part Fill gfn t) M from tt (fill_spares z u s G may gfn (word_below t.walk.level t.walk.entry (words_filled t.owned))
+      M.note K.2 from) S in
       either (nat_lt (words_filled t.owned + 1) 512) Fill Role gfn _ K_ K_
   own_saw Role gfn write M K S = let up = K.1.upper in entry_longer gfn (fault_part Role gfn t) M (omega (arith, up)) tt (inr (λ e. absurd (cc e))) S
   own_saw Link gfn write M K S =

@@ -20,8 +20,7 @@ use Rattle.core_views.specs.Sizes.{actors_of}
 use Rattle.core_views.specs.Slots.{is_write}
 use Rattle.spte_words.specs.declared.area.Area.{Area}
 use Rattle.spte_words.specs.declared.area.Area.TheVariants as area
-use Rattle.spte_words.specs.declared.spte_kind.SpteKind.TheVariants as entry_kind
-use Rattle.spte_words.specs.Entries.{kind_of, level_span}
+use Rattle.spte_words.specs.Entries.{level_span}
 use Rattle.mmu_core.specs.machine.Enabled.{mmu}
 use Rattle.mmu_core.specs.alone.FaultAlone.{EntryStands, LeadsToLeaf}
 use Rattle.mmu_core.specs.forms.access.FaultKnows.{FaultEndKnows, FaultKnows, HasEntry}
@@ -72,13 +71,12 @@ entry_leads : (z : Sizes) (w : World Held) (a gfn : ℕ) (write : Bool) → IsSo
 entry_leads z w a gfn write G there H stands =
     let walk : TableWalk = (hand_in mmu w a).topics.walk in
     let pool : ℕ → ℕ = word_in z w area.Pool in
-    let leaf : kind_of walk.level walk.entry ≡ entry_kind.Leaf = ap (λ l. kind_of l walk.entry) H.lowest ∙ H.leaf in
     record {
       at = walk.level;
       entry = walk.entry;
       leads = (leads_down z w gfn (table_page walk) walk.level walk.level walk.entry G (over_stands z w a gfn G there H.saw.over)).above
-          (leads_at pool walk.level (table_page walk) gfn walk.entry H.saw.over.there stands leaf);
-      leaf = leaf;
+          (leads_at pool walk.level (table_page walk) gfn walk.entry H.saw.over.there stands H.leaf);
+      leaf = H.leaf;
       allows = H.allows;
     }
 

@@ -41,7 +41,8 @@ use Rattle.mmu_laws.specs.turns.Removal.{ends_installed, has_installed}
 use Rattle.mmu_core.specs.machine.View.{answer_in, upd, words_after}
 use Rattle.mmu_core.proofs.machine.Columns.{upd_same}
 use Rattle.part_steps.specs.PartHoldings.{is_fixable}
-use Rattle.mmu_core.proofs.forms.access.LeafKnown.{IsPut, fix_marks, fix_put, leaf_put, put_at, put_is, puts_marks}
+use Rattle.mmu_core.proofs.forms.access.LeafKnown.{fix_marks, fix_put, leaf_put, puts_marks}
+use Rattle.mmu_core.proofs.forms.access.LeafPut.{IsPut, put_at, put_is}
 use Rattle.core_views.specs.declared.topics.TableWalk.{TableWalk}
 
 -- Where a fault comes to such an end, it has just loaded or stored the entry; it is over with one only from such a place.
@@ -85,7 +86,7 @@ claims_not _ is = cc is
 
 walk_sees : (k : SpteKind) (z : Sizes) (gfn : ℕ) (write : Bool) (t : Topics) (pool : ℕ → ℕ) (v : ℕ)
     → pool (pool_index (table_page t.walk) (entry_index gfn t.walk.level)) ≡ v
-    → SeesEntry (next_of.Goes (walk_next k z gfn write t.walk v)) pool gfn
+    → SeesEntry (next_of.Goes (walk_next k z gfn write t v)) pool gfn
     (record t { walk = gone_down (linked_page k) t.walk (entry_index gfn t.walk.level) v })
 walk_sees (entry_kind.Table page) z gfn write t pool v here = λ is. absurd (cc is)
 walk_sees _ z gfn write t pool v here = λ is. here

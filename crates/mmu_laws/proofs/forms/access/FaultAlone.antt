@@ -46,7 +46,8 @@ use Rattle.mmu_laws.proofs.alone.OthersOpen.{none_alone}
 use Rattle.mmu_laws.proofs.alone.PartAlone.{part_goes_alone, seen_on}
 use Rattle.mmu_core.proofs.orders.ClaimMade.{claim_made}
 use Rattle.mmu_core.proofs.machine.Columns.{upd_same}
-use Rattle.mmu_core.proofs.forms.access.LeafKnown.{IsPut, fix_put, leaf_put}
+use Rattle.mmu_core.proofs.forms.access.LeafKnown.{fix_put, leaf_put}
+use Rattle.mmu_core.proofs.forms.access.LeafPut.{IsPut}
 use Rattle.mmu_laws.proofs.forms.access.FindAlone.{find_goes}
 use Rattle.mmu_laws.proofs.forms.access.HostAlone.{host_forbids}
 use Rattle.mmu_laws.proofs.leaves.LeadsDown.{leads_same}
@@ -64,7 +65,9 @@ use Rattle.mmu_laws.proofs.causes.CauseSteps.{entry_unfrozen}
 use Rattle.core_views.specs.declared.topics.SlotSearch.{SlotSearch}
 use Rattle.core_views.specs.Slots.{contains}
 use Rattle.part_steps.specs.PageTopics.{searched}
-use Rattle.mmu_core.proofs.held.LowestKept.{lowest_leaf}
+use Rattle.mmu_core.proofs.pages.NoneBelow.{leaf_ends}
+use Rattle.part_steps.specs.PartHoldings.{IsEnd}
+use Rattle.spte_words.specs.Entries.{word_below}
 
 module _ (z : Sizes) (w : World Held) (a gfn note : ℕ) (write : Bool) (p : FaultPlace) (R : FaultRunsAlone z w a p gfn write) where
   abbrev t : Topics
@@ -82,18 +85,12 @@ module _ (z : Sizes) (w : World Held) (a gfn note : ℕ) (write : Bool) (p : Fau
   few : z.pool ≤ 2 ^ 32
   few = let most = R.sound.holds.sizes.pool.1 in omega (arith, most)
 
-  -- The entry that is next isn't frozen; and if it is a leaf, it is of the lowest level.
+  -- The entry that is next isn't frozen.
   unfrozen : 1 ≤ t.walk.level → kind_of t.walk.level (words area.Pool (pool_index page index)) ≢ entry_kind.Frozen
   unfrozen from =
       let at_page = (R.sound.topics.held a R.there).table from in
       entry_unfrozen R.sound.topics.tree page (at t.walk.level t.walk.prefix) index (words area.Pool (pool_index page index)) few at_page
       (R.sound.topics.tree.entries page (at t.walk.level t.walk.prefix) at_page index (omega arith))
-
-  lowest_next : IsOver gfn t.walk → kind_of t.walk.level (words area.Pool (pool_index page index)) ≡ entry_kind.Leaf → t.walk.level ≡ 1
-  lowest_next over leaf =
-      let span = over.span in
-      lowest_leaf z (view z w) R.sound.topics page t.walk.level t.walk.prefix index gfn ((R.sound.topics.held a R.there).table over.there) (omega arith)
-      (omega (arith, span)) leaf
 
   -- where the walk's table stands
   stands_over : IsOver gfn t.walk → stands R.sound.topics.up R.sound.topics.spot page ≡ Some (at t.walk.level (gfn / level_span t.walk.level / 512))
@@ -119,22 +116,19 @@ module _ (z : Sizes) (w : World Held) (a gfn note : ℕ) (write : Bool) (p : Fau
   leafed new_ = upd (words area.Pool) (pool_index page index) (if words area.Pool (pool_index page index) == t.walk.entry then new_
       else words area.Pool (pool_index page index))
 
-  module _ (new_ : ℕ) (over : IsOver gfn t.walk) (low : t.walk.level ≡ 1) (leaf : kind_of 1 new_ ≡ entry_kind.Leaf) (allows : allows_access write new_ ≡ true)
-      (stands : EntryStands (words area.Pool) gfn t) where
+  module _ (new_ : ℕ) (over : IsOver gfn t.walk) (ends : IsEnd t.walk.level t.walk.entry) (is_leaf : kind_of t.walk.level new_ ≡ entry_kind.Leaf)
+      (allows : allows_access write new_ ≡ true) (stands : EntryStands (words area.Pool) gfn t) where
     stored : leafed new_ ≡ upd (words area.Pool) (pool_index page index) new_
     stored =
         ap (λ (b : Bool). upd (words area.Pool) (pool_index page index) (if b then new_ else words area.Pool (pool_index page index)))
         (is_it (words area.Pool (pool_index page index)) t.walk.entry stands)
-
-    is_leaf : kind_of t.walk.level new_ ≡ entry_kind.Leaf
-    is_leaf = ap (λ l. kind_of l new_) low ∙ leaf
 
     tree_leafed : TreePart z.pool (words area.Root 0) (words area.Role) (leafed new_) R.sound.topics.up R.sound.topics.spot
     tree_leafed =
         subst (λ (pool : ℕ → ℕ). TreePart z.pool (words area.Root 0) (words area.Role) pool R.sound.topics.up R.sound.topics.spot) (sym stored)
         (entry_stored R.sound.topics.tree page (at t.walk.level t.walk.prefix) index new_
         ((R.sound.topics.held a R.there).table over.there) (omega arith)
-        (record { entry = inr (inr is_leaf); no_link = λ other upper e. absurd (omega (arith, low, upper)) }))
+        (record { entry = inr (inr is_leaf); no_link = subst (IsEnd t.walk.level) (sym stands) ends }))
 
     leaf_leads : LeadsToLeaf (leafed new_) 4 (words area.Root 0) gfn write
     leaf_leads =
@@ -203,8 +197,7 @@ next_alone z w a gfn note write (Walk true) R =
     let over : IsOver gfn t.walk = R.knows.2 refl in
     let v : ℕ = word_in z w area.Pool (pool_index (table_page t.walk) (entry_index gfn t.walk.level)) in
     walk_alone (word_in z w area.Root 0) (word_in z w area.Slots 0) (word_in z w area.Pool) (word_in z w area.Host) gfn write (kind_of t.walk.level v)
-    z t v refl refl
-    (above_now z w a gfn note write (Walk true) R over v) (lowest_next z w a gfn note write (Walk true) R over)
+    z t v over.there refl refl (above_now z w a gfn note write (Walk true) R over v)
     (unfrozen z w a gfn note write (Walk true) R over.there)
 next_alone z w a gfn note write (Claim begun) R =
     let t : Topics = (hand_in mmu w a).topics in
@@ -217,12 +210,13 @@ next_alone z w a gfn note write (Claim begun) R =
     (entry_still z gfn begun t v (word_in z w) a note _ _ _ (claim_made z Pages begun t v) R.alone)
 next_alone z w a gfn note write Fill R =
     let t : Topics = (hand_in mmu w a).topics in
-    let step : PartStep = part.Fill 0 in
+    let value : ℕ = word_below t.walk.level t.walk.entry (words_filled t.owned) in
+    let step : PartStep = part.Fill value in
     let task : Task = part_task step a t note in
     let after : Area → ℕ → ℕ = words_after task (word_in z w) in
     fill_alone (after area.Root 0) (after area.Slots 0) (after area.Pool) (after area.Host) gfn write (nat_lt (words_filled t.owned + 1) 512)
     (part_topics step t (answer_in task (word_in z w)))
-    (fill_leaves_entry z w a gfn note write Fill R 0 R.knows.1.saw.over.there R.knows.2 ∙ R.alone)
+    (fill_leaves_entry z w a gfn note write Fill R value R.knows.1.saw.over.there R.knows.2 ∙ R.alone)
 next_alone z w a gfn note write Role R = R.alone
 next_alone z w a gfn note write Link R =
     let t : Topics = (hand_in mmu w a).topics in
@@ -240,7 +234,7 @@ next_alone z w a gfn note write (Leaf writes) R =
     subst (λ (b : Bool). IsPut gfn write t (leaf_written gfn b t)) (sym R.knows.4) (leaf_put gfn write t R.knows.0 R.knows.2 R.knows.3) in
     leaf_alone (after area.Root 0) (after area.Slots 0) (after area.Pool) (after area.Host) gfn write (v == t.walk.entry) false
     (writes && t.search.logged) (Unshare (exchange_lost false z gfn t.walk v)) (part_topics (part.Leaf gfn writes) t v) (is_it v t.walk.entry R.alone)
-    (leaf_leads z w a gfn note write (Leaf writes) R (leaf_written gfn writes t) P.over P.low P.leaf P.allows R.alone)
+    (leaf_leads z w a gfn note write (Leaf writes) R (leaf_written gfn writes t) P.over R.knows.6 P.leaf P.allows R.alone)
 next_alone z w a gfn note write Fix R =
     let t : Topics = (hand_in mmu w a).topics in
     let v : ℕ = word_in z w area.Pool (pool_index (table_page t.walk) (entry_index gfn t.walk.level)) in
@@ -248,7 +242,7 @@ next_alone z w a gfn note write Fix R =
     let P : IsPut gfn write t (leaf_fixed t) = fix_put gfn write t R.knows.1 in
     leaf_alone (after area.Root 0) (after area.Slots 0) (after area.Pool) (after area.Host) gfn write (v == t.walk.entry) true t.search.logged
     (End (exchange_lost true z gfn t.walk v)) (part_topics (part.Fix gfn) t v) (is_it v t.walk.entry R.alone)
-    (leaf_leads z w a gfn note write Fix R (leaf_fixed t) P.over P.low P.leaf P.allows R.alone)
+    (leaf_leads z w a gfn note write Fix R (leaf_fixed t) P.over (leaf_ends t.walk.level t.walk.entry R.knows.1.leaf) P.leaf P.allows R.alone)
 next_alone z w a gfn note write (Mark fast) R =
     let t : Topics = (hand_in mmu w a).topics in
     over_alone (word_in z w area.Root 0) (word_in z w area.Slots 0) (word_in z w area.Pool) (word_in z w area.Host) gfn write fast true

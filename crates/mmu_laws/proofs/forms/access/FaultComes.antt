@@ -24,7 +24,7 @@ use Rattle.mmu_core.specs.declared.claim.FreeMap.TheVariants.{Frames, Pages}
 use Rattle.mmu_core.specs.orders.ClaimSteps.{try_part}
 use Rattle.mmu_core.specs.forms.access.FaultKnows.{FaultKnows}
 use Rattle.mmu_core.specs.forms.access.FaultSteps.{allows_access, fault_next, fault_part, is_owing, snapshot_taken, walk_next, after_claim, after_share}
-use Rattle.mmu_core.specs.forms.access.FaultSteps.{fast_walk_next, over_next, put_next}
+use Rattle.mmu_core.specs.forms.access.FaultSteps.{fast_walk_next, over_next, put_next, end_next}
 use Rattle.mmu_core.specs.lines.ScanPlaces.{BegunNext, HasBegun, OfPages}
 use Rattle.mmu_core.specs.orders.ShareSteps.{is_trying}
 use Rattle.part_steps.specs.PartTasks.{entry_index, page_looked, table_page, word_looked, part_task}
@@ -39,6 +39,7 @@ use Rattle.mmu_core.specs.machine.View.{words_after}
 use Rattle.part_steps.specs.declared.part_step.PartStep.{PartStep}
 use Rattle.mmu_core.proofs.orders.ClaimMade as made
 use Rattle.spte_words.specs.declared.area.Area.TheVariants as area
+use Rattle.part_steps.specs.RunHoldings.{maps_run}
 
 -- ---- tests
 
@@ -104,34 +105,29 @@ module _ (root set : ℕ) (pool host : ℕ → ℕ) (gfn : ℕ) (write : Bool) w
   installed page level e from above is leaf allows =
       record { at = level; entry = e; leads = above (leads_at pool level page gfn e from is leaf); leaf = leaf; allows = allows }
 
-  pub walk_leaf : (lowest allows : Bool) (z : Sizes) (t : Topics) (v : ℕ) (end_ : FaultPlace) → (t.walk.level == 1) ≡ lowest
-      → allows_access write v ≡ allows → kind_of t.walk.level v ≡ entry_kind.Leaf → pool (pool_index (table_page t.walk) (entry_index gfn t.walk.level)) ≡ v
-      → (LeadsTo pool t.walk.level (table_page t.walk) gfn t.walk.level v → LeadsTo pool 4 root gfn t.walk.level v)
-      → (kind_of t.walk.level v ≡ entry_kind.Leaf → t.walk.level ≡ 1)
-      → FaultAlone (if lowest then (if allows then Unshare Installed else Leaf write) else end_) root set pool host gfn write
+  pub walk_end : (maps : Bool) (t : Topics) (v : ℕ) → pool (pool_index (table_page t.walk) (entry_index gfn t.walk.level)) ≡ v
+      → FaultAlone (if maps then Leaf write else Claim false) root set pool host gfn write
       (record t { walk = gone_down None t.walk (entry_index gfn t.walk.level) v })
-  walk_leaf true true z t v end_ low may leaf is above only =
-      let one : t.walk.level ≡ 1 = grind (arith, nat_tests) in
-      installed (table_page t.walk) t.walk.level v (omega (arith, one)) above is leaf may
-  walk_leaf true false z t v end_ low may leaf is above only = is
-  walk_leaf false allows z t v end_ low may leaf is above only = let one = only leaf in absurd (grind (arith, nat_tests))
+  walk_end true t v is = is
+  walk_end false t v is = is
 
-  pub walk_none : (lowest : Bool) (t : Topics) (v : ℕ) → pool (pool_index (table_page t.walk) (entry_index gfn t.walk.level)) ≡ v
-      → FaultAlone (if lowest then Leaf write else Claim false) root set pool host gfn write
-      (record t { walk = gone_down None t.walk (entry_index gfn t.walk.level) v })
-  walk_none true t v is = is
-  walk_none false t v is = is
-
-  pub walk_alone : (k : SpteKind) (z : Sizes) (t : Topics) (v : ℕ) → kind_of t.walk.level v ≡ k
+  pub walk_leaf : (allows : Bool) (t : Topics) (v : ℕ) → 1 ≤ t.walk.level → allows_access write v ≡ allows → kind_of t.walk.level v ≡ entry_kind.Leaf
       → pool (pool_index (table_page t.walk) (entry_index gfn t.walk.level)) ≡ v
       → (LeadsTo pool t.walk.level (table_page t.walk) gfn t.walk.level v → LeadsTo pool 4 root gfn t.walk.level v)
-      → (kind_of t.walk.level v ≡ entry_kind.Leaf → t.walk.level ≡ 1) → (kind_of t.walk.level v ≢ entry_kind.Frozen)
-      → FaultAlone (walk_next k z gfn write t.walk v) root set pool host gfn write
+      → FaultAlone (if allows then Unshare Installed else end_next gfn write t) root set pool host gfn write
+      (record t { walk = gone_down None t.walk (entry_index gfn t.walk.level) v })
+  walk_leaf true t v from may leaf is above = installed (table_page t.walk) t.walk.level v from above is leaf may
+  walk_leaf false t v from may leaf is above = walk_end (maps_run t.walk.level gfn t) t v is
+
+  pub walk_alone : (k : SpteKind) (z : Sizes) (t : Topics) (v : ℕ) → 1 ≤ t.walk.level → kind_of t.walk.level v ≡ k
+      → pool (pool_index (table_page t.walk) (entry_index gfn t.walk.level)) ≡ v
+      → (LeadsTo pool t.walk.level (table_page t.walk) gfn t.walk.level v → LeadsTo pool 4 root gfn t.walk.level v)
+      → (kind_of t.walk.level v ≢ entry_kind.Frozen) → FaultAlone (walk_next k z gfn write t v) root set pool host gfn write
       (record t { walk = gone_down (linked_page k) t.walk (entry_index gfn t.walk.level) v })
-  walk_alone (entry_kind.Table page) z t v is here above only never = tt
-  walk_alone entry_kind.Leaf z t v is here above only never = walk_leaf (t.walk.level == 1) (allows_access write v) z t v _ refl refl is here above only
-  walk_alone entry_kind.Absent z t v is here above only never = walk_none (t.walk.level == 1) t v here
-  walk_alone entry_kind.Frozen z t v is here above only never = absurd (never is)
+  walk_alone (entry_kind.Table page) z t v from is here above never = tt
+  walk_alone entry_kind.Leaf z t v from is here above never = walk_leaf (allows_access write v) t v from refl is here above
+  walk_alone entry_kind.Absent z t v from is here above never = walk_end (maps_run t.walk.level gfn t) t v here
+  walk_alone entry_kind.Frozen z t v from is here above never = absurd (never is)
 
   -- ---- the claim
 

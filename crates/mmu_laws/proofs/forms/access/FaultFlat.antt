@@ -240,9 +240,9 @@ module _ (z : Sizes) (v : View) (a : ℕ) (line : Line) (gfn word : ℕ) (op : O
   fault_goes (Walk false) S part_ I P K R = quiet (Walk false) (Walk true) refl part_ I P R R.under.1.1
   fault_goes (Walk true) S part_ I P K R =
       quiet (Walk true)
-      (walk_next (kind_of held.walk.level (answered (Walk true))) (v.hand a).state.sizes gfn (is_write op) held.walk (answered (Walk true))) refl part_ I P R
+      (walk_next (kind_of held.walk.level (answered (Walk true))) (v.hand a).state.sizes gfn (is_write op) held (answered (Walk true))) refl part_ I P R
       (walk_noted (words_behind (Walk true) area.Pool) gfn op (held_behind (Walk true)) u.notes R.under.1.1 (kind_of held.walk.level (answered (Walk true)))
-      (v.hand a).state.sizes (is_write op) held.walk (answered (Walk true)))
+      (v.hand a).state.sizes (is_write op) held (answered (Walk true)))
   fault_goes (Claim begun) S part_ I P K R =
       let next : ClaimNext = claim_next Pages begun (v.hand a).state.sizes held.claim (answered (Claim begun)) in
       quiet (Claim begun) (after_claim next) refl part_ I P R

@@ -2,7 +2,7 @@
 use Rattle.std.proofs.Common.{◌≡◌, ℕ, refl}
 use Rattle.std.proofs.lemmas.Bool.{eq-eqb}
 use Rattle.std.specs.Prelude.{Bool, true, false, ◌==◌, ◌&&◌, nat_le, nat_lt, not, if◌then◌else◌, Some}
-use Rattle.core_views.specs.declared.place.Cause.TheVariants.{Open, Moved, Entry}
+use Rattle.core_views.specs.declared.place.Cause.TheVariants.{Open, Moved}
 use Rattle.core_views.specs.declared.place.CheckStage.{CheckStage}
 use Rattle.core_views.specs.declared.place.CheckStage.TheVariants as stage
 use Rattle.core_views.specs.declared.place.FaultEnd.TheVariants.{Installed, HostFault, Retry, NotFast}
@@ -24,11 +24,12 @@ use Rattle.mmu_core.specs.declared.claim.ClaimNext.{ClaimNext}
 use Rattle.mmu_core.specs.declared.claim.ClaimNext.TheVariants as claims
 use Rattle.mmu_core.specs.declared.share.ShareNext.{ShareNext}
 use Rattle.mmu_core.specs.declared.share.ShareNext.TheVariants as shares
-use Rattle.mmu_core.specs.forms.access.FaultSteps.{after_claim, after_share, allows_access, check_next, entry_word}
+use Rattle.mmu_core.specs.forms.access.FaultSteps.{after_claim, after_share, allows_access, check_next, end_next}
 use Rattle.mmu_core.specs.forms.access.FaultSteps.{page_next, snapshot_taken, walk_next, fast_walk_next, over_next, put_next}
 use Rattle.mmu_laws.specs.flat.FlatInvariant.{NotedAt, NotedLook}
 use Rattle.mmu_core.proofs.lines.EitherPlace.{either_place}
 use Rattle.part_steps.specs.PartHoldings.{is_fixable}
+use Rattle.part_steps.specs.RunHoldings.{maps_run}
 
 -- Where a fault stands after most of its steps the line has noted nothing, up to its look at the host, and from there on that it saw a page.
 module _ (pool : ℕ → ℕ) (gfn : ℕ) (op : Op) (t : Topics) (notes : Notes) where
@@ -49,14 +50,15 @@ module _ (pool : ℕ → ℕ) (gfn : ℕ) (op : Op) (t : Topics) (notes : Notes)
       either_place Noted (x == snapshot_taken h.invalidations.snapshot) (Walk false)
       (Unshare (Retry false (Moved (snapshot_taken h.invalidations.snapshot) x))) saw tt
 
-  pub walk_noted : SawPage notes gfn op → (k : SpteKind) (z : Sizes) (write : Bool) (walk : TableWalk) (x : ℕ) → Noted (walk_next k z gfn write walk x)
-  walk_noted saw entry_kind.Leaf z write walk x =
-      either_place Noted (walk.level == 1) (if allows_access write x then Unshare Installed else Leaf write)
-      (Unshare (Retry false (Entry (entry_word z gfn walk) x x)))
-      (either_place Noted (allows_access write x) (Unshare Installed) (Leaf write) tt saw) tt
-  walk_noted saw entry_kind.Absent z write walk x = either_place Noted (walk.level == 1) (Leaf write) (Claim false) saw saw
-  walk_noted saw (entry_kind.Table page) z write walk x = saw
-  walk_noted saw entry_kind.Frozen z write walk x = tt
+  end_noted : SawPage notes gfn op → (write : Bool) (h : Topics) → Noted (end_next gfn write h)
+  end_noted saw write h = either_place Noted (maps_run h.walk.level gfn h) (Leaf write) (Claim false) saw saw
+
+  pub walk_noted : SawPage notes gfn op → (k : SpteKind) (z : Sizes) (write : Bool) (h : Topics) (x : ℕ) → Noted (walk_next k z gfn write h x)
+  walk_noted saw entry_kind.Leaf z write h x =
+      either_place Noted (allows_access write x) (Unshare Installed) (end_next gfn write h) tt (end_noted saw write h)
+  walk_noted saw entry_kind.Absent z write h x = end_noted saw write h
+  walk_noted saw (entry_kind.Table page) z write h x = saw
+  walk_noted saw entry_kind.Frozen z write h x = tt
 
   pub over_noted : (fast marked : Bool) → Noted (over_next fast marked)
   over_noted true marked = tt

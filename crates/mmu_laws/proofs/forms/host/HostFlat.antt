@@ -1,10 +1,10 @@
 -- What the steps of a host line owe flat memory.
 use Rattle.core_views.specs.Lawful.{may_look}
-use Rattle.std.proofs.Common.{◌≡◌, ℕ, [], ◌∷◌, ◌++◌, Bool, true, false, refl, sym, subst, ap, ◌∙◌, eqb-true}
+use Rattle.std.proofs.Common.{◌≡◌, ℕ, [], ◌∷◌, ◌++◌, Bool, true, false, refl, sym, subst, ap, ◌∙◌, eqb-true, ◌<◌, ◌≤◌, arith}
 use Rattle.std.specs.Prelude.{◌+◌, ◌==◌, if◌then◌else◌, nat_lt}
 use Rattle.core_views.specs.declared.answer.Answer.{Answer}
 use Rattle.core_views.specs.declared.answer.Answer.TheVariants.{Done, Moved, Refused}
-use Rattle.core_views.specs.declared.answer.Refusal.TheVariants.{NoFrame, OutOfRange}
+use Rattle.core_views.specs.declared.answer.Refusal.TheVariants.{IsHuge, NoFrame, OutOfRange}
 use Rattle.core_views.specs.declared.event.EventKind.TheVariants.{HostChanged, LookedAtHost}
 use Rattle.core_views.specs.declared.host.HostEntry.{HostEntry}
 use Rattle.core_views.specs.declared.place.BeginPlace.TheVariants as begins
@@ -68,6 +68,11 @@ use Rattle.mmu_laws.proofs.forms.host.HostEntries.{answers_done, answers_moved, 
 use Rattle.mmu_laws.proofs.forms.host.HostReady.{HasLooked, HostTask, ReadyHost, host_after, host_after_is, host_at_once, host_page_low, host_still}
 use Rattle.mmu_laws.proofs.forms.host.HostReady.{host_tells_none}
 use Rattle.mmu_laws.proofs.forms.host.HostReady.{looked_still, noted_still}
+use Rattle.core_views.specs.Host.{is_huge}
+use Rattle.mmu_core.specs.forms.host.HostSteps.{maps_large}
+use Rattle.std.proofs.lemmas.Bool.Decides.{nat_tests}
+use Rattle.core_views.specs.Sizes.{actors_of}
+use Rattle.core_views.specs.Events.{under_after}
 
 -- A line that moves its page, which is small, and has work, may be given up where no frame is free.
 gives_up : (z : Sizes) (facts : Facts) (h : Held) (page : ℕ) (change : HostChange) (notes : Notes) (t : Topics) → is_move change ≡ true
@@ -75,6 +80,10 @@ gives_up : (z : Sizes) (facts : Facts) (h : Held) (page : ℕ) (change : HostCha
     → MayLeave z facts h.state.actor (ChangeHost page change) notes (Refused NoFrame)
 gives_up z facts h page Move notes t moves works N = (works, record { entry = N.0; looked = N.1; small = ap (nat_lt 1) N.3 })
 gives_up z facts h page _ notes t moves works N = absurd (cc moves)
+
+-- An entry that is no part of a large page is of level 1.
+at_level_1 : (e : HostEntry) → is_huge e ≡ false → 1 ≤ e.level → e.level ≡ 1
+at_level_1 e small least = grind (arith, nat_tests)
 
 module _ (z : Sizes) (v : View) (a : ℕ) (line : Line) (page : ℕ) (change : HostChange) (facts : Facts) (past : Past) (u : LineUnderWay) where
   abbrev command : Command
@@ -107,20 +116,50 @@ module _ (z : Sizes) (v : View) (a : ℕ) (line : Line) (page : ℕ) (change : H
 
   -- ---- the look
 
-  abbrev after_look : Bool → Bool → Outcome
-  after_look moving own = if own then Goes (place.Host (if moving then Claim false else Begin begins.Exclude)) else Ends (Refused OutOfRange)
+  abbrev looked_next : Bool → Bool → Bool → Outcome
+  looked_next moving own large =
+      if own then (if large then Ends (Refused IsHuge) else Goes (place.Host (if moving then Claim false else Begin begins.Exclude)))
+      else Ends (Refused OutOfRange)
 
   looks_under : (moving : Bool) (t : Topics) (w : LineUnderWay) → HasLooked page t w → HostUnder (if moving then Claim false else Begin begins.Exclude) page t w
   looks_under true t w L = L
   looks_under false t w L = L
 
-  -- It looks at its page, or is refused.
-  look_goes : (moving own : Bool) → is_own h.state.sizes h.state.actor page ≡ own → IsStep z v a line command (place.Host (Look moving)) → Invariant z v
-      → TopicsInvariant z v → ReadyAt (Look moving) → RefinesBy z v (task (Look moving)) facts
+  -- The page's entry is what the look found, where the page is its actor's own.
+  entry_found : (moving : Bool) → Invariant z v → a < actors_of z → is_own h.state.sizes h.state.actor page ≡ true → ReadyAt (Look moving)
+      → facts.host page ≡ entry_of (found (Look moving))
+  entry_found moving I there is R =
+      R.refines.host page (host_page_low z v a line page change facts past u I there is)
+      ∙ ap entry_of (sym (ap (λ (b : Bool). answer_in (part_task (if b then part.Host page else part.Seq) (own_index h) h.topics 1) v.words) is))
+
+  -- It looks at its page, or is refused: at once, or since the page is part of a large one.
+  look_goes : (moving own large : Bool) → is_own h.state.sizes h.state.actor page ≡ own → maps_large (found (Look moving)) ≡ large
+      → IsStep z v a line command (place.Host (Look moving)) → Invariant z v → TopicsInvariant z v → ReadyAt (Look moving)
+      → RefinesBy z v (task (Look moving)) facts
       → (own ≡ true → word_looked (after (Look moving)).host ≡ v.words area.Host page)
-      → GoesBy z v a line command (task (Look moving)) (place_after (after_look moving own))
-      ((if own then LookedAtHost page ∷ [] else []) ++ answering (after_look moving own) line) facts past u
-  look_goes moving true is S I P R stands looked = record {
+      → GoesBy z v a line command (task (Look moving)) (place_after (looked_next moving own large))
+      ((if own then LookedAtHost page ∷
+      exiting (if large then Ends (Refused IsHuge) else Goes (place.Host (if moving then Claim false else Begin begins.Exclude)))
+      else []) ++ answering (looked_next moving own large) line) facts past u
+  look_goes moving true true is large S I P R stands looked = record {
+    allowed = (
+      ap may_look R.under.1,
+      (leaves_by z v a line command (task (Look moving)) facts past (under_after (LookedAtHost page) facts u) stands (Refused IsHuge) R.under.0 R.under.1
+          (subst (λ c. MayLeave z facts h.state.actor c (under_after (LookedAtHost page) facts u).notes (Refused IsHuge)) (sym
+          (own_command (Look moving) S R.under.0)) (
+            subst (HasWork z facts h.state.actor) (own_command (Look moving) S R.under.0)
+                (host_at_once z v a line page change facts past u (Look moving) true S I R.under.0 is),
+            record {
+              entry = facts.host page;
+              looked = entry_noted page (facts.host page) u.notes.host;
+              huge = ap is_huge (entry_found moving I S.there is R) ∙ large;
+            },
+          ))).allowed,
+    );
+    refines = stands;
+    under = refl;
+  }
+  look_goes moving true false is small S I P R stands looked = record {
     allowed = (ap may_look R.under.1, tt);
     refines = stands;
     under = (
@@ -132,13 +171,14 @@ module _ (z : Sizes) (v : View) (a : ℕ) (line : Line) (page : ℕ) (change : H
           entry_noted page (facts.host page) u.notes.host,
           same_agree (facts.host page) (entry_of (word_looked (after (Look moving)).host))
               (R.refines.host page (host_page_low z v a line page change facts past u I S.there is) ∙ ap entry_of (sym (looked refl))),
-          ap (λ (e : HostEntry). e.level) (R.refines.host page (host_page_low z v a line page change facts past u I S.there is))
-              ∙ P.lowest.hosts page (host_page_low z v a line page change facts past u I S.there is),
+          at_level_1 (facts.host page) (ap is_huge (entry_found moving I S.there is R) ∙ small)
+              (subst (λ (e : HostEntry). 1 ≤ e.level) (sym (R.refines.host page (host_page_low z v a line page change facts past u I S.there is)))
+              (P.hosts page (host_page_low z v a line page change facts past u I S.there is)).2),
         ),
       ),
     );
   }
-  look_goes moving false is S I P R stands looked =
+  look_goes moving false large is size S I P R stands looked =
       answers_by z v a line command (task (Look moving)) facts past u stands (Refused OutOfRange) R.under.0
       (subst (λ s. Tells z facts h.state.actor u.line.command s (Refused OutOfRange)) (sym R.under.1)
       (host_at_once z v a line page change facts past u (Look moving) false S I R.under.0 is))
@@ -148,10 +188,10 @@ module _ (z : Sizes) (v : View) (a : ℕ) (line : Line) (page : ℕ) (change : H
       → word_looked (after (Look moving)).host ≡ v.words area.Host page
   looked_now moving M is =
       ap (λ (t : Topics). word_looked t.host) (host_after_is z v a line page change facts past u (Look moving) M)
-      ∙ ap (λ (b : Bool). looked_by (if b then part.Host page else part.Seq) (if b then 0 else 1)) is
+      ∙ ap (λ (b : Bool). looked_by (if b then part.Host page else part.Seq)) is
     where
-      looked_by : PartStep → ℕ → ℕ
-      looked_by s note = word_looked (part_topics s h.topics (answer_in (part_task s (own_index h) h.topics note) v.words)).host
+      looked_by : PartStep → ℕ
+      looked_by s = word_looked (part_topics s h.topics (answer_in (part_task s (own_index h) h.topics 1) v.words)).host
 
   -- ---- the claim
 
@@ -210,7 +250,8 @@ module _ (z : Sizes) (v : View) (a : ℕ) (line : Line) (page : ℕ) (change : H
   pub host_goes_on : (p : HostPlace) → HostKnows p page change h → IsStep z v a line command (place.Host p) → Invariant z v → TopicsInvariant z v
       → CopiedAt z v → Made p → ReadyAt p → StepGoes z v a line command (place.Host p) facts past u
   host_goes_on (Look moving) K S I P C M R =
-      look_goes moving (is_own h.state.sizes h.state.actor page) refl S I P R (host_still z v a line page change facts past u (Look moving) refl M P R)
+      look_goes moving (is_own h.state.sizes h.state.actor page) (maps_large (found (Look moving))) refl refl S I P R
+      (host_still z v a line page change facts past u (Look moving) refl M P R)
       (looked_now moving M)
   host_goes_on (Claim begun) K S I P C M R =
       let x : ℕ = found (Claim begun) in

@@ -5,7 +5,7 @@ use Rattle.std.specs.Prelude.{Bool, true, false, ◌==◌, nat_lt, if◌then◌e
 use Rattle.std.specs.Int.{bit_not}
 use Rattle.std.proofs.lemmas.Nat.Bits.{bit_at-trailing_zeros, bit_at-zero}
 use Rattle.core_views.specs.declared.answer.Answer.TheVariants.{Refused}
-use Rattle.core_views.specs.declared.answer.Refusal.TheVariants.{OutOfRange}
+use Rattle.core_views.specs.declared.answer.Refusal.TheVariants.{OutOfRange, IsHuge}
 use Rattle.core_views.specs.declared.place.BeginPlace.{BeginPlace}
 use Rattle.core_views.specs.declared.place.BeginPlace.TheVariants as begins
 use Rattle.core_views.specs.declared.place.EndPlace.TheVariants as ends
@@ -47,7 +47,7 @@ use Rattle.mmu_core.specs.declared.watch.WatchNext.{WatchNext}
 use Rattle.mmu_core.specs.invariant.Laws.{IsSound}
 use Rattle.mmu_core.specs.invariant.PoolPart.{is_free}
 use Rattle.mmu_core.specs.forms.host.HostKnows.{HostKnows}
-use Rattle.mmu_core.specs.forms.host.HostSteps.{after_begin, after_end, after_frame_claim, after_frame_watch, host_note, host_part, moves}
+use Rattle.mmu_core.specs.forms.host.HostSteps.{after_begin, after_end, after_frame_claim, after_frame_watch, host_note, host_part, moves, maps_large}
 use Rattle.mmu_core.specs.orders.InvalidateSteps.{begin_next, begin_part, end_next}
 use Rattle.mmu_core.specs.orders.WatchSteps.{watch_next}
 use Rattle.mmu_core.specs.machine.Enabled.{mmu}
@@ -130,12 +130,13 @@ module _ (command : Command) (words : Area → ℕ → ℕ) (a note : ℕ) (t : 
   still_lowest (part.Change new_) other L = absurd (cc other)
   still_lowest _ other L = L
 
-  look_form : (own moving : Bool) (page : ℕ) → t.frames.owned ≡ None
-      → FormNext (if own then Goes (place.Host (if moving then host.Claim false else host.Begin begins.Exclude)) else Ends (Refused OutOfRange)) command
-      (after (if own then part.Host page else part.Seq)) (part_topics (if own then part.Host page else part.Seq) t v)
-  look_form true true page none = tt
-  look_form true false page none = owns_none_lowest (words area.FrameMap) t.frames.owned none
-  look_form false moving page none = tt
+  look_form : (own large moving : Bool) (page : ℕ) → t.frames.owned ≡ None
+      → FormNext (if own then (if large then Ends (Refused IsHuge) else Goes (place.Host (if moving then host.Claim false else host.Begin begins.Exclude)))
+      else Ends (Refused OutOfRange)) command (after (if own then part.Host page else part.Seq)) (part_topics (if own then part.Host page else part.Seq) t v)
+  look_form true true moving page none = tt
+  look_form true false true page none = tt
+  look_form true false false page none = owns_none_lowest (words area.FrameMap) t.frames.owned none
+  look_form false large moving page none = tt
 
   claim_form : (z : Sizes) (begun : Bool) (step : PartStep) (next : ClaimNext) (u : Topics) → ClaimMade z Frames begun t v step next u
       → (begun ≡ true → ScanStands (words area.FrameMap) t.frames.claim) → t.frames.claim.seen < 2 ^ 64
@@ -193,7 +194,7 @@ module _ (z : Sizes) (w : World Held) (a : ℕ) (sound : IsSound z w) (there : a
       → AloneKnows (place.Host p) (ChangeHost page change) words h.topics → KnowsAfter z w a (place.Host p) (ChangeHost page change)
   host_form (host.Look moving) page change K L =
       look_form (ChangeHost page change) words (own_index h) (host_note (host.Look moving) page h) h.topics (found (host.Look moving) page change)
-      (is_own h.state.sizes h.state.actor page) moving page K.2
+      (is_own h.state.sizes h.state.actor page) (maps_large (found (host.Look moving) page change)) moving page K.2
   host_form (host.Claim begun) page change K L =
       claim_form (ChangeHost page change) words (own_index h) (host_note (host.Claim begun) page h) h.topics (found (host.Claim begun) page change)
       h.state.sizes begun _ _ _ (claim_made h.state.sizes Frames begun h.topics (found (host.Claim begun) page change)) (λ b. L.seen.scan Frames b)

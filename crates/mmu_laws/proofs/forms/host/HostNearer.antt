@@ -50,20 +50,22 @@ use Rattle.std.proofs.Common.{◌≡◌, inl, inr, ◌+◌, ◌-◌, ◌*◌, �
 use Rattle.std.specs.Prelude.{Bool, true, false, ◌==◌, nat_lt, not, is_some, if◌then◌else◌, Option, Some, None}
 use Rattle.std.proofs.lemmas.Bool.Decides.{nat_tests}
 use Rattle.core_views.specs.declared.place.HostPlace.TheVariants.{Look, Claim, Begin, Copy, Store, Change, End, Watch, Free}
-use Rattle.core_views.specs.declared.answer.Refusal.TheVariants.{NoFrame, OutOfRange}
+use Rattle.core_views.specs.declared.answer.Refusal.TheVariants.{NoFrame, OutOfRange, IsHuge}
 use Rattle.core_views.specs.declared.topics.Frames.{Frames as HeldFrames}
 use Rattle.core_views.specs.declared.topics.OwnedFrame.{OwnedFrame}
 use Rattle.core_views.specs.Sizes.{actors_of}
 use Rattle.part_steps.specs.FrameTopics.{frame_after, word_copied, word_stored, words_moved}
 use Rattle.mmu_core.specs.declared.claim.FreeMap.TheVariants.{Frames}
 use Rattle.mmu_core.specs.orders.ClaimSteps.{claim_left, claim_next}
-use Rattle.mmu_core.specs.forms.host.HostSteps.{word_put, host_part, after_end, host_outcome, after_begin, host_left, copies_left, frees_left, moves}
+use Rattle.mmu_core.specs.forms.host.HostSteps.{word_put, host_part, after_end, host_outcome, after_begin, moves}
+use Rattle.mmu_core.specs.forms.host.HostLeft.{host_left, copies_left, frees_left}
 use Rattle.mmu_core.specs.orders.WatchSteps.{looked_at, watch_next}
 use Rattle.mmu_core.proofs.orders.ClaimMade.{claim_falls, claim_made, word_there}
 use Rattle.mmu_core.proofs.orders.InvalidatePlaces.{begin_leaves_pages, end_leaves_pages}
 use Rattle.mmu_core.proofs.orders.WatchMade.{watch_falls, watch_made}
 use Rattle.mmu_laws.proofs.turns.BeginNearer.{begin_falls, begin_left_after}
 use Rattle.mmu_laws.proofs.turns.Nearer.{Nearer, claim_nearer, watch_nearer}
+use Rattle.mmu_core.specs.forms.host.HostSteps.{maps_large}
 
 -- ---- the exchange
 
@@ -147,12 +149,13 @@ frees_most true z = omega arith
 frees_most false z = omega arith
 
 -- The look leads to the claim, or to the begin.
-look_nearer : (c : Command) (moving own_ : Bool) (z : Sizes) (t u : Topics) → t.frames.owned ≡ None → u.frames ≡ t.frames
-    → Nearer (if own_ then Goes (place.Host (if moving then Claim false else Begin begins.Exclude)) else Ends (Refused OutOfRange)) c z u
-    (host_left (Look moving) z t)
-look_nearer c moving false z t u none same = tt
-look_nearer c true true z t u none same = omega arith
-look_nearer c false true z t u none same =
+look_nearer : (c : Command) (moving own_ large : Bool) (z : Sizes) (t u : Topics) → t.frames.owned ≡ None → u.frames ≡ t.frames
+    → Nearer (if own_ then (if large then Ends (Refused IsHuge) else Goes (place.Host (if moving then Claim false else Begin begins.Exclude)))
+    else Ends (Refused OutOfRange)) c z u (host_left (Look moving) z t)
+look_nearer c moving false large z t u none same = tt
+look_nearer c moving true true z t u none same = tt
+look_nearer c true true false z t u none same = omega arith
+look_nearer c false true false z t u none same =
     let no : moves u ≡ false = ap (λ (f : HeldFrames). is_some f.owned) same ∙ ap is_some none in
     rw no (omega arith)
 
@@ -205,7 +208,7 @@ pub host_nearer : (p : HostPlace) (page : ℕ) (change : HostChange) (h : Held) 
     → Nearer (host_outcome p page h v) (ChangeHost page change) h.state.sizes (part_topics (host_part p page change h) h.topics v)
     (host_left p h.state.sizes h.topics)
 host_nearer (Look moving) page change h v R K finds goes =
-    look_nearer (ChangeHost page change) moving (is_own h.state.sizes h.state.actor page) h.state.sizes h.topics
+    look_nearer (ChangeHost page change) moving (is_own h.state.sizes h.state.actor page) (maps_large v) h.state.sizes h.topics
     (part_topics (host_part (Look moving) page change h) h.topics v) K.2
     (either_place (λ s. (part_topics s h.topics v).frames ≡ h.topics.frames) (is_own h.state.sizes h.state.actor page) (part.Host page) part.Seq refl refl)
 host_nearer (Claim begun) page change h v R K finds goes =

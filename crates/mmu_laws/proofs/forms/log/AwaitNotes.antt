@@ -28,7 +28,7 @@ use Rattle.mmu_core.specs.forms.log.LogSteps.{awaits_last}
 use Rattle.mmu_core.specs.lines.ScanPlaces.{claim_at}
 use Rattle.mmu_core.specs.machine.Steps.{task_at}
 use Rattle.mmu_core.proofs.lines.LineClaims.{MayEnd}
-use Rattle.mmu_laws.specs.steps.StepLaws.{AwaitsLast, LoadsLastWord, NoteTells}
+use Rattle.mmu_laws.specs.steps.NoteLaws.{AwaitsLast, LoadsLastWord, NoteTells}
 
 -- Such a line claims in no map.
 pub awaits_without : (map : FreeMap) → claim_at map (place.Log Await) ≡ None
@@ -103,19 +103,22 @@ module _ (command : Command) (h : Held) (v : ℕ) where
       by : (waits last : Bool) → has_to_flush v ≡ waits → awaits_last h ≡ last
           → NoteTells (place.Log Await) h.state.sizes (look_at (if awaits_last h then 1 else 0)) (outcome_at (place.Log Await) command h v) v
       by true true flush is = rw (flush, is) (record {
-        tells = inr (inr (looks_last 1 (over is)));
+        tells = inr (inr (inl (looks_last 1 (over is))));
         last = λ L. absurd (loads_none 1 L);
         awaits = λ A. (refl, ap (λ (b : Bool). if b then 0 else 1) (sym flush));
+        looks = λ L. let at = L.at in absurd (cc at);
       })
       by false true flush is = rw (flush, is) (record {
         tells = inl refl;
         last = λ L. absurd (loads_none 1 L);
         awaits = λ A. (refl, ap (λ (b : Bool). if b then 0 else 1) (sym flush));
+        looks = λ L. let at = L.at in absurd (cc at);
       })
       by waits false flush is = rw is (record {
         tells = inl (goes (has_to_flush v));
         last = λ L. absurd (loads_none 0 L);
         awaits = λ A. absurd (let few = none_after 0 A in let less = more is in omega (arith, few, less));
+        looks = λ L. let at = L.at in absurd (cc at);
       })
         where
           goes : (b : Bool) → 0 ≡ ends_with (after_log (if b || true then next.Goes Await else next.Reads) h.harvest)

@@ -22,7 +22,7 @@ use Rattle.core_views.specs.Slots.{is_some_and}
 use Rattle.core_views.specs.SlotSets.{MemorySlots, slot_of_id}
 use Rattle.core_views.proofs.SlotLines.{log_here, logged_so}
 use Rattle.part_steps.specs.LogHoldings.{log_end}
-use Rattle.part_steps.specs.PartHoldings.{own_open}
+use Rattle.part_steps.specs.SetHoldings.{own_open}
 use Rattle.part_steps.specs.PartTasks.{words_filled}
 use Rattle.part_steps.specs.declared.part_step.PartStep.{PartStep}
 use Rattle.mmu_core.specs.declared.claim.FreeMap.TheVariants.{Pages}

@@ -32,7 +32,7 @@ use Rattle.mmu_core.specs.declared.invalidate.BeginNext.TheVariants as begins_ne
 use Rattle.mmu_core.specs.declared.invalidate.EndNext.{EndNext}
 use Rattle.mmu_core.specs.declared.invalidate.EndNext.TheVariants as ends_next
 use Rattle.mmu_core.specs.orders.InvalidateSteps.{begin_next, begin_part, end_next, end_part}
-use Rattle.part_steps.specs.PartHoldings.{own_open}
+use Rattle.part_steps.specs.SetHoldings.{own_open}
 use Rattle.part_steps.specs.SetWords.{set_role}
 use Rattle.mmu_laws.proofs.turns.BeginNearer.{begin_falls, begin_left_after}
 use Rattle.mmu_laws.proofs.forms.host.HostNearer.{end_left_after, end_less}

@@ -15,7 +15,7 @@ returns-clause-leaves c level frame w hw mw from to small = (
   leaf_can_write level frame w hw mw,
   leaf_host_writable level frame w hw mw small,
   leaf_mmu_writable level frame w hw mw small,
-  leaf_fits level frame w hw mw small,
+  leaf_fits level frame w hw mw (omega (arith, small)),
 )
 
 pub returns-clause-links : goal.returns-clause-links

@@ -1,6 +1,0 @@
-ghost use Rattle.show_steps.specs.Laws.{LinesTellTurns};
-
-/// Law: the lines of a run tell its turns one for one, in order, those too that share a line.
-pub fn lines_tell_turns()
-    ensures { LinesTellTurns }
-{}

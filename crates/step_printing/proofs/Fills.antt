@@ -1,0 +1,170 @@
+-- Stores that go on are one line, and others are lines of their own.
+use Rattle.std.proofs.Common.{◌≡◌, ◌⊎◌, inl, inr, ◌+◌, ◌/◌, ℕ, List, [], ◌∷◌, ◌++◌, append_assoc, refl, sym, ap, subst, ◌∙◌, arith}
+use Rattle.std.proofs.lemmas.Bool.Decides.{nat_tests}
+use Rattle.std.proofs.lemmas.List.{append-nil}
+use Rattle.std.specs.Prelude.{Bool, true, false, ◌&&◌, ◌==◌, if◌then◌else◌, Option, Some, None}
+use Rattle.core_views.specs.declared.sizes.Sizes.{Sizes}
+use Rattle.core_views.specs.declared.actor.Actor.{Actor}
+use Rattle.core_views.specs.declared.actor.Actor.TheVariants.{Vcpu, Host, Manager, Worker}
+use Rattle.core_views.specs.declared.kind.StepKind.TheVariants.{Fill}
+use Rattle.core_views.specs.Actors.{is_same}
+use Rattle.core_views.specs.Kinds.{code_of}
+use Rattle.spte_words.specs.Areas.{number_of}
+use Rattle.spte_words.specs.declared.area.Area.{Area}
+use Rattle.spte_words.specs.declared.area.Area.TheVariants as area
+use Rattle.step_text.specs.declared.row.Row.{Row}
+use Rattle.step_printing.specs.Lines.{Entry, Turns, Text, PutsEntry, after_fills, fills_text, goes_on, is_next_word, joined, lines_text, page_words, with_more}
+
+pub both : (a b : Bool) → (a && b) ≡ true → (a ≡ true) × (b ≡ true)
+both true true e = (refl, refl)
+both true false e = absurd (cc e)
+both false b e = absurd (cc e)
+
+pub equal : (a b : ℕ) → (a == b) ≡ true → a ≡ b
+equal a b e = grind (arith, nat_tests)
+
+-- An actor that is the same as another is the same as each that the other is.
+same_actor : (a b c : Actor) → is_same a b ≡ true → is_same a c ≡ is_same b c
+same_actor (Vcpu m) (Vcpu n) c e = ap (λ (k : ℕ). is_same (Vcpu k) c) (equal m n e)
+same_actor (Vcpu m) (Host n) c e = absurd (cc e)
+same_actor (Vcpu m) Manager c e = absurd (cc e)
+same_actor (Vcpu m) (Worker n) c e = absurd (cc e)
+same_actor (Host m) (Host n) c e = ap (λ (k : ℕ). is_same (Host k) c) (equal m n e)
+same_actor (Host m) (Vcpu n) c e = absurd (cc e)
+same_actor (Host m) Manager c e = absurd (cc e)
+same_actor (Host m) (Worker n) c e = absurd (cc e)
+same_actor Manager Manager c e = refl
+same_actor Manager (Vcpu n) c e = absurd (cc e)
+same_actor Manager (Host n) c e = absurd (cc e)
+same_actor Manager (Worker n) c e = absurd (cc e)
+same_actor (Worker m) (Worker n) c e = ap (λ (k : ℕ). is_same (Worker k) c) (equal m n e)
+same_actor (Worker m) (Vcpu n) c e = absurd (cc e)
+same_actor (Worker m) (Host n) c e = absurd (cc e)
+same_actor (Worker m) Manager c e = absurd (cc e)
+
+-- an area by its number
+same_words : (z : Sizes) (a b : Area) → number_of a ≡ number_of b → page_words z a ≡ page_words z b
+same_words z a b e = by a b (sym (ap (λ (n : ℕ). n) e))
+  where
+    words : Sizes → ℕ → ℕ
+    words z n = if n == 14 then 512 else if n == 15 then page_words z area.Content else 1
+
+    is : (a : Area) → page_words z a ≡ words z (number_of a)
+    is area.Root = refl
+    is area.Slots = refl
+    is area.Seq = refl
+    is area.Count = refl
+    is area.RangeStart = refl
+    is area.RangeEnd = refl
+    is area.Lock = refl
+    is area.Pause = refl
+    is area.State = refl
+    is area.PoolMap = refl
+    is area.FrameMap = refl
+    is area.Log = refl
+    is area.Host = refl
+    is area.Role = refl
+    is area.Pool = refl
+    is area.Content = refl
+
+    by : (a b : Area) → number_of b ≡ number_of a → page_words z a ≡ page_words z b
+    by a b e = is a ∙ ap (words z) (sym e) ∙ sym (is b)
+
+module _ (z : Sizes) where
+  -- What goes on with stores goes on with the last of them.
+  next_more : (a b c : Row) → is_next_word z a b ≡ true → is_next_word z (with_more a b.count) c ≡ is_next_word z b c
+  next_more a b c e =
+      let first = both (number_of a.place.area == number_of b.place.area) _ e in
+      let second = both (a.place.index + a.count == b.place.index) _ first.1 in
+      let area_is = equal (number_of a.place.area) (number_of b.place.area) first.0 in
+      let at = equal (a.place.index + a.count) b.place.index second.0 in
+      let words = same_words z a.place.area b.place.area area_is in
+      let page =
+      equal (a.place.index / page_words z a.place.area) (b.place.index / page_words z a.place.area) second.1
+      ∙ ap (λ (n : ℕ). b.place.index / n) words in
+      let sum : a.place.index + (a.count + b.count) ≡ b.place.index + b.count = omega (arith, at) in
+      ap (λ (n : ℕ). (n == number_of c.place.area) && ((a.place.index + (a.count + b.count) == c.place.index)
+      && (a.place.index / page_words z a.place.area == c.place.index / page_words z a.place.area))) area_is
+      ∙ ap (λ (n : ℕ). (number_of b.place.area == number_of c.place.area) && ((n == c.place.index)
+      && (a.place.index / page_words z a.place.area == c.place.index / page_words z a.place.area))) sum
+      ∙ ap (λ (n : ℕ). (number_of b.place.area == number_of c.place.area) && ((b.place.index + b.count == c.place.index)
+      && (n == c.place.index / page_words z a.place.area))) page
+      ∙ ap (λ (n : ℕ). (number_of b.place.area == number_of c.place.area) && ((b.place.index + b.count == c.place.index)
+      && (b.place.index / page_words z b.place.area == c.place.index / n))) words
+
+  pub goes_more : (a b c : Row) → goes_on z a b ≡ true → goes_on z (with_more a b.count) c ≡ goes_on z b c
+  goes_more a b c e =
+      let one = both (a.code == code_of Fill) _ e in
+      let two = both (b.code == code_of Fill) _ one.1 in
+      let three = both (is_same a.actor b.actor) _ two.1 in
+      let four = both (is_next_word z a b) _ three.1 in
+      let five = both (a.found == b.found) _ four.1 in
+      let code = one.0 ∙ sym two.0 in
+      let actor = same_actor a.actor b.actor c.actor three.0 in
+      let next = next_more a b c four.0 in
+      let found = equal a.found b.found five.0 in
+      let left = equal a.left b.left five.1 in
+      ap (λ (x : Bool). x && ((c.code == code_of Fill) && (is_same a.actor c.actor && (is_next_word z (with_more a b.count) c
+      && ((a.found == c.found) && (a.left == c.left)))))) code
+      ∙ ap (λ (x : Bool). (b.code == code_of Fill) && ((c.code == code_of Fill) && (x && (is_next_word z (with_more a b.count) c
+      && ((a.found == c.found) && (a.left == c.left)))))) actor
+      ∙ ap (λ (x : Bool). (b.code == code_of Fill) && ((c.code == code_of Fill) && (is_same b.actor c.actor && (x
+      && ((a.found == c.found) && (a.left == c.left)))))) next
+      ∙ ap (λ (x : ℕ). (b.code == code_of Fill) && ((c.code == code_of Fill) && (is_same b.actor c.actor && (is_next_word z b c
+      && ((x == c.found) && (a.left == c.left)))))) found
+      ∙ ap (λ (x : ℕ). (b.code == code_of Fill) && ((c.code == code_of Fill) && (is_same b.actor c.actor && (is_next_word z b c
+      && ((b.found == c.found) && (x == c.left)))))) left
+
+  with_sum : (a : Row) (m n : ℕ) → Turns (with_more a (m + n)) [] ≡ Turns (with_more (with_more a m) n) []
+  with_sum a m n =
+      let sum : a.count + (m + n) ≡ (a.count + m) + n = omega arith in ap (λ (k : ℕ). Turns (record a { count = k }) []) sum
+
+  -- A store that goes on with others is in their line.
+  pub fold_joins : (a b : Row) → goes_on z a b ≡ true → (rest : List Entry)
+      → joined z (Turns (with_more a b.count) []) rest ≡ joined z (Turns a []) (joined z (Turns b []) rest)
+  fold_joins a b e [] = rw e refl
+  fold_joins a b e (Text text ∷ rest) = rw e refl
+  fold_joins a b e (Turns c (x ∷ xs) ∷ rest) = rw e refl
+  fold_joins a b e (Turns c [] ∷ rest) = by (goes_on z b c) refl
+    where
+      by : (t : Bool) → goes_on z b c ≡ t
+          → joined z (Turns (with_more a b.count) []) (Turns c [] ∷ rest) ≡ joined z (Turns a []) (joined z (Turns b []) (Turns c [] ∷ rest))
+      by true t =
+          let more = goes_more a b c e ∙ t in
+          rw (more, t, e) (ap (λ (x : Entry). x ∷ rest) (sym (with_sum a b.count c.count)))
+      by false t = let more = goes_more a b c e ∙ t in rw (more, t, e) refl
+
+  -- What doesn't go on with stores comes after their line.
+  pub apart : (a b : Row) → goes_on z a b ≡ false → (rest : List Entry)
+      → joined z (Turns a []) (joined z (Turns b []) rest) ≡ Turns a [] ∷ joined z (Turns b []) rest
+  apart a b e [] = rw e refl
+  apart a b e (Text text ∷ rest) = rw e refl
+  apart a b e (Turns c (x ∷ xs) ∷ rest) = rw e refl
+  apart a b e (Turns c [] ∷ rest) = by (goes_on z b c) refl
+    where
+      by : (t : Bool) → goes_on z b c ≡ t
+          → joined z (Turns a []) (joined z (Turns b []) (Turns c [] ∷ rest)) ≡ Turns a [] ∷ joined z (Turns b []) (Turns c [] ∷ rest)
+      by true t = rw (t, e) refl
+      by false t = rw (t, e) refl
+
+  -- A turn with which its line goes on is put after the stores that it doesn't go on with.
+  pub put_after : (fills : Option Row) (before middle text : List ℕ) (row : Row) (after : Option Row)
+      → (fills ≡ None) ⊎ ((a : Row) × (fills ≡ Some a) × (goes_on z a row ≡ false)) → middle ≡ before ++ fills_text z fills
+      → PutsEntry z None middle (Turns row []) after text → PutsEntry z fills before (Turns row []) after text
+  put_after fills before middle text row after (inl none) are puts =
+      rw none (λ rest. puts rest ∙ ap (λ (x : List ℕ). x ++ lines_text z (joined z (Turns row []) rest))
+      (are ∙ ap (λ (o : Option Row). before ++ fills_text z o) none ∙ append-nil before))
+  put_after fills before middle text row after (inr (a, is, not_)) are puts =
+      subst (λ (o : Option Row). PutsEntry z o before (Turns row []) after text) (sym is)
+      (λ rest. puts rest
+      ∙ ap (λ (x : List ℕ). x ++ lines_text z (joined z (Turns row []) rest)) (are ∙ ap (λ (o : Option Row). before ++ fills_text z o) is)
+      ∙ append_assoc before (fills_text z (Some a)) (lines_text z (joined z (Turns row []) rest))
+      ∙ ap (λ (es : List Entry). before ++ lines_text z es) (sym (apart a row not_ rest)))
+
+  -- A store that goes on with others is put into their line.
+  pub put_fold : (fills : Option Row) (a row : Row) (count : ℕ) (before : List ℕ) → fills ≡ Some a → count ≡ a.count + row.count → goes_on z a row ≡ true
+      → PutsEntry z fills before (Turns row []) (Some (record a { count = count })) before
+  put_fold fills a row count before is sum e rest =
+      ap (λ (n : ℕ). before ++ lines_text z (joined z (Turns (record a { count = n }) []) rest)) sum
+      ∙ ap (λ (es : List Entry). before ++ lines_text z es) (fold_joins a row e rest)
+      ∙ ap (λ (o : Option Row). before ++ lines_text z (after_fills z o (joined z (Turns row []) rest))) (sym is)

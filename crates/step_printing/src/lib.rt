@@ -1,0 +1,12 @@
+//! Each step of a run, one line for each turn: the program `show_steps`, but for its words and its ends.
+#![tactic(auto)]
+
+mod command;
+mod laws;
+mod lines;
+mod program;
+mod row;
+mod step_printer;
+
+pub use laws::lines_tell_turns;
+pub use program::{run, run_within};
