@@ -20,12 +20,12 @@ OpenFramesAreRecorded = AfterEveryRun (λ z w.
     → HasOpen w actor → IsIn (own_of w actor) gfn
     → (word_in z w area.RangeStart 0 ≤ gfn) × (gfn < word_in z w area.RangeEnd 0) × (gfn < 2 ^ 36))
 
--- Where it is of a run of host pages, it is of the guest frames that the published slots give to these pages, and of no others; and the run is one page.
+-- Where it is of a run of host pages, it is of the guest frames that the published slots give to these pages, and of no others.
 abbrev pub OpenFramesAreOfThePages : Type 0
 OpenFramesAreOfThePages = AfterEveryRun (λ z w.
     (actor : ℕ) (run : PageRun) → actor < actors_of z
     → HasOpen w actor → (own_of w actor).pages ≡ Some run
-    → (run.level ≡ 1) × IsOfPages (word_in z w area.Pool) (word_in z w area.Slots 0) (own_of w actor))
+    → IsOfPages (word_in z w area.Pool) (word_in z w area.Slots 0) (own_of w actor))
 
 -- Once its actor has asked for a first flush, no links lead such a guest frame from the root to a leaf; of a slot's, up to the publication.
 abbrev pub OpenFramesAreZapped : Type 0

@@ -1,5 +1,5 @@
 -- A run of the machine: what it tells, and what its words stand for.
-use Rattle.std.specs.Prelude.{◌≡◌, ◌<◌, ℕ, List}
+use Rattle.std.specs.Prelude.{◌≡◌, ◌<◌, ◌≤◌, ℕ, List}
 use Rattle.core_views.specs.declared.host.HostEntry.{HostEntry}
 use Rattle.core_views.specs.declared.kind.Kind.{Kind}
 use Rattle.core_views.specs.declared.sizes.Sizes.{Sizes}
@@ -38,11 +38,11 @@ abbrev pub word_of_entry : HostEntry → ℕ
 word_of_entry e = host_word e.frame e.present e.writable e.level
 
 -- The words of this world stand for these facts: published slots with their logs, the content words of the pages' frames, and the pause; each host word is
--- what the host maps its page to, and each page is small; and no two pages have one frame.
+-- what the host maps its page to, at a level that has leaves; and no two pages have one frame.
 pub record StandsForFacts (z : Sizes) (w : World Held) (f : Facts) : Type 0 where
   pub refines : Refines z (word_in z w area.Slots 0) (word_in z w area.Pool) (word_in z w area.Host) (word_in z w area.Content) (word_in z w area.Pause 0) f
   pub host : (page : ℕ) → page < z.pages → word_in z w area.Host page ≡ word_of_entry (f.host page)
-  pub small : (page : ℕ) → page < z.pages → (f.host page).level ≡ 1
+  pub levels : (page : ℕ) → page < z.pages → (1 ≤ (f.host page).level) × ((f.host page).level ≤ 3)
   pub frames : (page : ℕ) → page < z.pages → (f.host page).frame < z.frames
   pub apart : (page other : ℕ) → page < z.pages → other < z.pages → (f.host page).frame ≡ (f.host other).frame → page ≡ other
 

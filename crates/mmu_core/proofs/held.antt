@@ -40,7 +40,6 @@ pub mod SetsKept
 pub mod LookedFrames
 pub mod StateTells
 pub mod StatesKept
-pub mod LowestKept
 pub mod TopicsKept
 pub mod ClaimGoes
 pub mod Scanned

@@ -14,7 +14,6 @@ pub mod StatesPart
 pub mod AreUsed
 pub mod TreePart
 pub mod AllOver
-pub mod LowestPart
 pub mod PoolPart
 pub mod SearchPart
 pub mod RunsPart

@@ -31,7 +31,7 @@ ghost use Rattle.mmu_laws.specs.forms.log.LogCommandLaws.{BadRangesAreRefused, C
 ghost use Rattle.mmu_laws.specs.flat.FlatLogs.{LogsAreFlat};
 ghost use Rattle.mmu_laws.specs.flat.Histories.{AnswersAreTold, EndsWhole, StaysWhole};
 ghost use Rattle.mmu_core.specs.invariant.Laws.{StaysSound, TellsLawfully};
-ghost use Rattle.mmu_laws.specs.leaves.LeafLaws.{CachedLeavesAgree, HeldLeavesAgree, LeavesAgree, LeavesAreLowest, UsedLeavesAgree};
+ghost use Rattle.mmu_laws.specs.leaves.LeafLaws.{CachedLeavesAgree, HeldLeavesAgree, LeavesAgree, LeavesCoverSpans, UsedLeavesAgree};
 ghost use Rattle.mmu_laws.specs.leaves.OpenFrames.{OpenFramesAreFlushed, OpenFramesAreOfThePages, OpenFramesAreRecorded, OpenFramesAreZapped};
 ghost use Rattle.mmu_core.specs.alone.LineAlone.{LineBeginsAlone, LineEndsAlone, LineGoesThrough, NoneStarvedAlone};
 ghost use Rattle.mmu_core.specs.invariant.Scans.{StarvedLinesScan};
@@ -286,10 +286,10 @@ pub fn the_pool_is_enough()
 /// an access is about to touch is of the page that the slots give the guest frame, at the
 /// frame that the host gives this page. It is MMU-writable exactly where the slots give a
 /// write this page and the host allows it, host-writable exactly where the host does, and
-/// allows writes only where it is MMU-writable. So it is at any level, and all of them are
-/// of the lowest one. A virtual processor may use all that it has
+/// allows writes only where it is MMU-writable. So it is at any level: links lead each guest
+/// frame of a leaf's span to this leaf. A virtual processor may use all that it has
 /// cached while it is in the guest, or no flush is asked of it. What is cached else is of
-/// the lowest level too, at frames of the machine, and no other actor has anything cached
+/// a level that has leaves too, at frames of the machine, and no other actor has anything cached
 /// (tdp_mmu.c, `tdp_mmu_map_handle_target_level`; mmu.rst, "Shadow pages"). Each guest
 /// frame that an open invalidation is of lies in the range of the open ones. It is of
 /// exactly the guest frames that the published slots give to its host page. Once its
@@ -302,7 +302,7 @@ pub fn the_pool_is_enough()
 pub fn leaves_agree()
     ensures standing { LeavesAgree }
     ensures held { HeldLeavesAgree }
-    ensures lowest { LeavesAreLowest }
+    ensures spans { LeavesCoverSpans }
     ensures cached { CachedLeavesAgree }
     ensures used { UsedLeavesAgree }
     ensures recorded { OpenFramesAreRecorded }

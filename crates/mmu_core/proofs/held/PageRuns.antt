@@ -1,5 +1,5 @@
 -- Runs of host pages: which pages are on them.
-use Rattle.std.proofs.Common.{◌≡◌, ◌/◌, ℕ, refl, sym, subst, ap, ◌∙◌, arith}
+use Rattle.std.proofs.Common.{◌≡◌, ◌/◌, ℕ, refl, subst, ap, ◌∙◌, arith}
 use Rattle.std.specs.Prelude.{true, Option, Some, None, is_some}
 use Rattle.core_views.specs.declared.topics.PageRun.{PageRun}
 use Rattle.spte_words.specs.Entries.{level_span}
@@ -21,13 +21,6 @@ first_of_run page run lowest on =
 
 pub this_page : (other page : ℕ) → IsOnRun other (Some (run_of page)) → other ≡ page
 this_page other page on = first_of_run other (run_of page) refl on
-
-pub one_run : (page : ℕ) (pages : Option PageRun) → ((run : PageRun) → pages ≡ Some run → run.level ≡ 1) → IsOnRun page pages → pages ≡ Some (run_of page)
-one_run page None lowest on = absurd on
-one_run page (Some run) lowest on =
-    let first = first_of_run page run (lowest run refl) on in
-    let level = lowest run refl in
-    ap Some (λ i. record { first = sym first i; level = level i })
 
 -- In one way at most.
 pub on_run_prop : (page : ℕ) (pages : Option PageRun) → IsProp (IsOnRun page pages)

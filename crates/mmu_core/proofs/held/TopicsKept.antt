@@ -8,12 +8,10 @@ use Rattle.core_views.specs.declared.trace.Line.{Line}
 use Rattle.core_views.specs.declared.trace.Op.{Op}
 use Rattle.core_views.specs.declared.trace.Op.TheVariants.{Read}
 use Rattle.core_views.specs.Held.{Held}
-use Rattle.core_views.specs.Sizes.{actors_of}
 use Rattle.part_steps.specs.declared.task.Task.{Task}
 use Rattle.part_steps.specs.declared.part_step.PartStep.{PartStep}
 use Rattle.mmu_core.specs.forms.access.AccessSteps.{touch_of}
 use Rattle.mmu_core.specs.invariant.Invariant.{Invariant}
-use Rattle.mmu_core.specs.invariant.LowestPart.{AreLowest}
 use Rattle.mmu_core.specs.machine.Steps.{idle_after, task_at}
 use Rattle.part_steps.specs.Tasks.{kind_of_task}
 use Rattle.part_steps.specs.TopicSteps.{topics_after}
@@ -28,7 +26,6 @@ use Rattle.mmu_core.proofs.held.InvalidationsKept.{checks_kept, counts_kept, few
 use Rattle.mmu_core.proofs.pages.LoadedKept.{loaded_kept}
 use Rattle.mmu_core.proofs.held.LockKept.{lock_kept}
 use Rattle.mmu_core.proofs.pages.LeavesOver.{leaves_kept}
-use Rattle.mmu_core.proofs.held.LowestKept.{idle_lowest, lowest_kept, stepped_lowest}
 use Rattle.mmu_core.proofs.pages.Paths.{paths_kept}
 use Rattle.mmu_core.proofs.pages.PoolKept.{uses_kept}
 use Rattle.mmu_core.proofs.machine.SameTopics.{same_topics}
@@ -96,7 +93,6 @@ topics_part_kept z v a step note S I = record {
   small_changes = small_changes_kept z v a step note S I;
   swept = swept_kept z v a step note S I;
   zapped = zapped_kept z v a step note S I;
-  lowest = lowest_kept z v a step note S I;
   few_ended = few_kept z v a step note S I;
   counters = counters_kept z v a step note S I;
 }
@@ -108,18 +104,13 @@ topics_behind v a task = record {
   hand = upd v.hand a (idle_after (v.hand a) (kind_of_task (v.hand a).state.sizes task) (answer_in task v.words));
 }
 
--- A touch caches nothing. It stores in content alone, and leaves what actors hold.
-touch_lowest : (z : Sizes) (v : View) (a : ℕ) (op : Op) (index : ℕ) → TopicsInvariant z v
-    → AreLowest (actors_of z) (topics_behind v a (touch_of op index)).hand
-touch_lowest z v a op index P =
-    idle_lowest (actors_of z) v.hand a (kind_of_task (v.hand a).state.sizes (touch_of op index)) (answer_in (touch_of op index) v.words) P.lowest.cached
-
+-- A touch stores in content alone, and leaves what actors hold.
 touch_kept : (z : Sizes) (v : View) (a : ℕ) (op : Op) (index : ℕ) → TopicsInvariant z v → TopicsInvariant z (topics_behind v a (touch_of op index))
 unfolding topics_after
 touch_kept z v a Read index P =
-    same_topics z _ _ _ _ _ _ _ _ _ _ _ _ _ v.hand _ (column (λ (h : Held). h.topics) v.hand a _ refl) P (touch_lowest z v a Read index P)
+    same_topics z _ _ _ _ _ _ _ _ _ _ _ _ _ v.hand _ (column (λ (h : Held). h.topics) v.hand a _ refl) P
 touch_kept z v a op index P =
-    same_topics z _ _ _ _ _ _ _ _ _ _ _ _ _ v.hand _ (column (λ (h : Held). h.topics) v.hand a _ refl) P (touch_lowest z v a op index P)
+    same_topics z _ _ _ _ _ _ _ _ _ _ _ _ _ v.hand _ (column (λ (h : Held). h.topics) v.hand a _ refl) P
 
 kept_by : (z : Sizes) (v : View) (a : ℕ) (task : Task) → StepIn z v a task → TopicsInvariant z v → TopicsInvariant z (topics_behind v a task)
 kept_by z v a _ (Makes step note S) P = topics_part_kept z v a step note S P
@@ -130,7 +121,6 @@ pub topics_line_kept : (z : Sizes) (v : View) (a : ℕ) (line : Line) (command :
     → Invariant z v → TopicsInvariant z v → TopicsInvariant z (stepped a line command p v)
 topics_line_kept z v a line command p small S I P =
     same_topics z _ _ _ _ _ _ _ _ _ _ _ _ _ behind.hand (upd v.hand a after) (λ t i. same i t) (kept_by z v a task (step_in z v a line command p small S I P) P)
-    (stepped_lowest z v a line command p S I P)
   where
     h : Held
     h = v.hand a

@@ -1,13 +1,9 @@
--- What is said of the words of the parts and of what actors hold speaks of hands by their topics alone, but where it says
--- that what they have cached is of the lowest level.
+-- What is said of the words of the parts and of what actors hold speaks of hands by their topics alone.
 use Rattle.std.proofs.Common.{◌≡◌, ◌<◌, ℕ, sym, subst}
-use Rattle.std.specs.Prelude.{Some}
 use Rattle.core_views.specs.declared.sizes.Sizes.{Sizes}
-use Rattle.core_views.specs.declared.topics.PageRun.{PageRun}
 use Rattle.core_views.specs.declared.topics.Topics.{Topics}
 use Rattle.core_views.specs.Held.{Held}
 use Rattle.core_views.specs.Sizes.{actors_of}
-use Rattle.mmu_core.specs.invariant.LowestPart.{AreLowest}
 use Rattle.mmu_core.specs.invariant.TopicsInvariant.{CountersPart, FilledPart, FramesPart, HeldPart, LockPart, LookPart, OwedPart}
 use Rattle.mmu_core.specs.invariant.TopicsInvariant.{OwnLooksPart, SawWriter, SearchPart}
 use Rattle.mmu_core.specs.invariant.TopicsInvariant.{StatesPart, TopicsInvariantOf, SetsPart, OldSetsPart, PathPart, UsePart, stands, CountPart}
@@ -17,8 +13,8 @@ use Rattle.mmu_core.specs.invariant.TopicsInvariant.{RunsPart, ScopePart, SlotSc
 pub same_topics : (z : Sizes) (lock root slots seq count start end_ : ℕ) (states map frame_map host role pool : ℕ → ℕ) (hand other : ℕ → Held)
     → ◌≡◌ {A = ℕ → Topics} (λ i. (other i).topics) (λ i. (hand i).topics)
     → TopicsInvariantOf z lock root slots seq count start end_ states map frame_map host role pool hand
-    → AreLowest (actors_of z) other → TopicsInvariantOf z lock root slots seq count start end_ states map frame_map host role pool other
-same_topics z lock root slots seq count start end_ states map frame_map host role pool hand other same I lowest = record {
+    → TopicsInvariantOf z lock root slots seq count start end_ states map frame_map host role pool other
+same_topics z lock root slots seq count start end_ states map frame_map host role pool hand other same I = record {
   up = I.up;
   spot = I.spot;
   use_of = I.use_of;
@@ -53,13 +49,6 @@ same_topics z lock root slots seq count start end_ states map frame_map host rol
   small_changes = subst (λ (t : ℕ → Topics). SmallChangesPart (actors_of z) host t) (sym same) I.small_changes;
   swept = subst (λ (t : ℕ → Topics). SweptPart (actors_of z) I.up I.spot pool root t) (sym same) I.swept;
   zapped = subst (λ (t : ℕ → Topics). ZappedPart (actors_of z) I.up I.spot pool root t) (sym same) I.zapped;
-  lowest = record {
-    leaves = I.lowest.leaves;
-    cached = lowest;
-    hosts = I.lowest.hosts;
-    runs = subst (λ (t : ℕ → Topics). (i : ℕ) (run : PageRun) → i < actors_of z → (t i).invalidations.own.pages ≡ Some run → run.level ≡ 1) (sym same)
-        I.lowest.runs;
-  };
   few_ended = I.few_ended;
   counters = subst (λ (t : ℕ → Topics). (i : ℕ) → i < actors_of z → CountersPart z (t i)) (sym same) I.counters;
 }

@@ -1,8 +1,7 @@
 -- At the start what holds of the machine's parts holds.
 use Rattle.std.proofs.Common.{◌≡◌, inl, ◌<◌, ◌%◌, ℕ, List, refl, sym, subst, ap, ◌∙◌, arith}
 use Rattle.std.proofs.lemmas.Bool.Decides.{nat_tests}
-use Rattle.std.proofs.lemmas.List.Elements.{All-nil}
-use Rattle.std.specs.Prelude.{All, Bool, true, false, ◌==◌, nat_le, nat_lt, Option, Some, None}
+use Rattle.std.specs.Prelude.{Bool, true, false, ◌==◌, nat_le, nat_lt, Option, Some, None}
 use Rattle.core_views.specs.declared.sizes.Sizes.{Sizes}
 use Rattle.core_views.specs.declared.topics.OwnedPage.{OwnedPage}
 use Rattle.core_views.specs.declared.topics.Topics.{Topics}
@@ -38,7 +37,6 @@ use Rattle.mmu_core.proofs.start.StartWords.{bits_behind, bits_below, bits_insid
 use Rattle.mmu_core.proofs.machine.SumsBelow.{sum_none}
 use Rattle.mmu_core.proofs.machine.ColumnsTell.{at_none, is_outside, no_outside, other}
 use Rattle.mmu_core.specs.invariant.InvalidatedPart.{PassedPart}
-use Rattle.mmu_core.specs.invariant.LowestPart.{IsLowest}
 use Rattle.spte_words.specs.HostWords.{host_frame}
 use Rattle.spte_words.proofs.ReadsHost.{host_has_frame}
 use Rattle.core_views.specs.declared.topics.HostLook.{HostLook}
@@ -275,12 +273,6 @@ start_topics z lines w start = record {
   slot_scopes = λ i lt is. absurd (none_open_yet z lines w i start lt is);
   runs = small_runs z _ _ _ (levels_start z lines w start);
   small_changes = λ i page lt is. absurd (none_open_yet z lines w i start lt is);
-  lowest = record {
-    leaves = λ table entry gfn R O leaf. absurd (no_leaf (start_spot table).level table entry leaf);
-    cached = λ i lt. subst (λ (h : Held). All IsLowest h.cached.items) (sym (hand_is z lines w i start lt)) (All-nil IsLowest);
-    hosts = levels_start z lines w start;
-    runs = λ i run lt is. let none = ap (λ (t : Topics). t.invalidations.own.pages) (topics_are z lines w i start lt) in absurd (cc (none, is));
-  };
   few_ended = let none = seq_start z lines w start in omega (arith, none);
   counters = λ i lt. subst (CountersPart z) (sym (topics_are z lines w i start lt)) (counters_first z);
 }

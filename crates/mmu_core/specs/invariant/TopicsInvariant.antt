@@ -13,7 +13,6 @@ pub use Rattle.mmu_core.specs.invariant.HeldPart.{HeldPart, HoldsOld, OldSetsPar
 pub use Rattle.mmu_core.specs.invariant.InvalidationsPart.{CheckedPart, CountPart, KnownRangePart, LoadedPart}
 pub use Rattle.mmu_core.specs.invariant.InvalidatedPart.{PassedPart, RangePart, ScopePart, SweptPart, ZappedPart}
 pub use Rattle.mmu_core.specs.invariant.LockPart.{LockPart, SawWriter}
-pub use Rattle.mmu_core.specs.invariant.LowestPart.{LowestPart}
 pub use Rattle.mmu_core.specs.invariant.PoolPart.{FilledPart, IsFilled, UsePart, is_retired}
 pub use Rattle.mmu_core.specs.invariant.RunsPart.{RunsPart, SlotScopePart, SmallChangesPart}
 pub use Rattle.mmu_core.specs.invariant.SearchPart.{HeldSlotsPart, IsInvalidating, LookPart, SearchPart}
@@ -57,7 +56,6 @@ pub record TopicsInvariantOf (z : Sizes) (lock root slots seq count start end_ :
   pub zapped : ZappedPart (actors_of z) up spot pool root (λ i. (hand i).topics)
   pub runs : RunsPart z (actors_of z) host (λ i. (hand i).topics)
   pub small_changes : SmallChangesPart (actors_of z) host (λ i. (hand i).topics)
-  pub lowest : LowestPart z up spot root host pool hand
   pub few_ended : seq < 2 ^ 40
   pub counters : (i : ℕ) → i < actors_of z → CountersPart z (hand i).topics
 

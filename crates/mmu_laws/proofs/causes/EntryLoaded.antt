@@ -21,7 +21,6 @@ use Rattle.mmu_core.specs.invariant.TreePart.{EntryPart, at}
 use Rattle.mmu_core.specs.machine.View.{view, word_in}
 use Rattle.mmu_core.proofs.invariant.AloneLaws.{part_found}
 use Rattle.mmu_laws.proofs.causes.CauseSteps.{Spares, entry_unfrozen}
-use Rattle.mmu_core.proofs.held.LowestKept.{lowest_leaf}
 use Rattle.mmu_laws.proofs.causes.MadeSteps.{Makes, in_machine}
 use Rattle.mmu_core.proofs.words.PartWords.{walks_unowned}
 use Rattle.mmu_core.proofs.pages.Owned.{owned_some}
@@ -52,21 +51,16 @@ module _ (z : Sizes) (u : World Held) (s : Step Kind) (G : IsSound z u) (may : M
   pub low : (gfn : ℕ) → entry_index gfn t.walk.level < 512
   low gfn = omega arith
 
-  -- the entry that a walk loads: it isn't frozen, and where it is a leaf its table is of the lowest level
-  pub kinds : (gfn : ℕ) (M : Made (part.Walk gfn))
-      → (kind_of t.walk.level v ≡ entry_kind.Leaf → t.walk.level ≡ 1) × (kind_of t.walk.level v ≢ entry_kind.Frozen)
-  kinds gfn M =
+  -- the entry that a walk loads isn't frozen
+  pub unfrozen : (gfn : ℕ) (M : Made (part.Walk gfn)) → kind_of t.walk.level v ≢ entry_kind.Frozen
+  unfrozen gfn M =
       let from : 1 ≤ t.walk.level = M.needs.0.there in
       let is : v ≡ word_in z u area.Pool (entry_at gfn) = ap (answered mmu u) M.is ∙ part_found z u a (part.Walk gfn) M.note G there M.needs in
       let most = G.holds.sizes.pool.1 in
       let at_page = (G.topics.held a there).table from in
-      let span = M.needs.0.span in (
-        λ leaf. lowest_leaf z (view z u) G.topics (table_page t.walk) t.walk.level t.walk.prefix (entry_index gfn t.walk.level) gfn at_page (low gfn)
-            (omega (arith, span)) (ap (kind_of t.walk.level) (sym is) ∙ leaf),
-        entry_unfrozen G.topics.tree (table_page t.walk) (at t.walk.level t.walk.prefix) (entry_index gfn t.walk.level) v (omega (arith, most)) at_page
-            (subst (EntryPart G.topics.up (table_page t.walk) (at t.walk.level t.walk.prefix) (entry_index gfn t.walk.level)) (sym is)
-            (G.topics.tree.entries (table_page t.walk) (at t.walk.level t.walk.prefix) at_page (entry_index gfn t.walk.level) (low gfn))),
-      )
+      entry_unfrozen G.topics.tree (table_page t.walk) (at t.walk.level t.walk.prefix) (entry_index gfn t.walk.level) v (omega (arith, most)) at_page
+      (subst (EntryPart G.topics.up (table_page t.walk) (at t.walk.level t.walk.prefix) (entry_index gfn t.walk.level)) (sym is)
+      (G.topics.tree.entries (table_page t.walk) (at t.walk.level t.walk.prefix) at_page (entry_index gfn t.walk.level) (low gfn)))
 
   pub fill_spares : (gfn value note : ℕ) → HasToFill t → 1 ≤ t.walk.level → Spares area.Pool (entry_at gfn) h (part.Fill value) note
   fill_spares gfn value note F from = inr (λ e here.

@@ -1,5 +1,5 @@
 -- Each leaf that stands, is cached, or is used agrees with slots and host.
-use Rattle.std.proofs.Common.{◌≡◌, inl, inr, ◌/◌, ◌^◌, ◌<◌, ◌≤◌, ℕ, zero, suc, refl, sym, subst, ap, ◌∙◌, arith}
+use Rattle.std.proofs.Common.{◌≡◌, inl, inr, ◌/◌, ◌%◌, ◌^◌, ◌<◌, ◌≤◌, ℕ, zero, suc, refl, sym, subst, ap, ◌∙◌, arith}
 use Rattle.std.specs.Prelude.{Bool, true, false, ◌&&◌, not, if◌then◌else◌, Option, Some, None, is_some}
 use Rattle.core_views.specs.declared.place.AccessPlace.TheVariants.{Touch}
 use Rattle.core_views.specs.declared.place.Place.{Place}
@@ -20,15 +20,18 @@ use Rattle.spte_words.specs.Areas.{pool_index}
 use Rattle.spte_words.specs.Entries.{can_write, host_writable, kind_of, level_span, mapped_frame, mmu_writable}
 use Rattle.spte_words.specs.HostWords.{host_allows_write}
 use Rattle.spte_words.proofs.ReadsEntries.{leaf_can_write, leaf_host_writable, leaf_mmu_writable}
+use Rattle.spte_words.proofs.ProtectedEntries.{leaf_level}
 use Rattle.spte_words.proofs.Spans.{span_4}
 use Rattle.mmu_core.specs.machine.Enabled.{mmu}
 use Rattle.mmu_core.specs.alone.FaultAlone.{LeadsTo}
 use Rattle.mmu_core.specs.forms.access.FaultSteps.{allows_access}
 use Rattle.mmu_core.specs.invariant.Invariant.{IsLeafFor, KnowsPart, SlotSetPart}
 use Rattle.mmu_core.specs.invariant.Laws.{IsSound}
-use Rattle.mmu_core.specs.invariant.LowestPart.{IsLowest}
-use Rattle.mmu_laws.specs.leaves.LeafLaws.{LeafAgrees, CachedAgrees}
+use Rattle.mmu_core.specs.invariant.CachedPart.{FitsMachine}
+use Rattle.mmu_core.specs.forms.access.Cached.{covers}
+use Rattle.mmu_laws.specs.leaves.LeafLaws.{CachedAgrees, CoversSpan, LeafAgrees}
 use Rattle.mmu_core.specs.machine.Machine.{World, hand_in}
+use Rattle.part_steps.specs.PartBounds.{IsAtLeafLevel}
 use Rattle.part_steps.specs.PartTasks.{entry_index, table_page}
 use Rattle.part_steps.specs.PartHoldings.{IsOver}
 use Rattle.part_steps.specs.SlotWords.{may_write, page_of, slot_at, slots_below}
@@ -36,11 +39,10 @@ use Rattle.mmu_core.specs.invariant.TreePart.{Position, HangsBelow, TreePart, Us
 use Rattle.mmu_core.specs.machine.View.{view, word_in}
 use Rattle.mmu_core.specs.invariant.AllOver.{AllOver, LeafSays, LeavesSay}
 use Rattle.mmu_core.proofs.pages.AllOver.{reaches_on}
-use Rattle.mmu_core.proofs.held.LowestKept.{lowest_leaf}
 use Rattle.mmu_core.proofs.pages.LeavesOver.{leaf_for}
 use Rattle.mmu_core.proofs.pages.TreePlaces.{root_stands}
 use Rattle.mmu_core.proofs.pages.NoneBelow.{over_frame}
-use Rattle.mmu_laws.proofs.leaves.LeadsDown.{leads_down, one_below}
+use Rattle.mmu_laws.proofs.leaves.LeadsDown.{leads_at, leads_down, one_below}
 use Rattle.mmu_core.proofs.words.HostFrames.{first_small, leaf_maps}
 use Rattle.mmu_core.proofs.words.SlotLists.{only_one_holds}
 use Rattle.mmu_core.proofs.forms.access.CachedKept.{used_covers}
@@ -172,13 +174,19 @@ leaves_agree z w gfn low entry sound small leads leaf =
     leaf_agrees z (word_in z w area.Slots 0) (word_in z w area.Role) (word_in z w area.Pool) (word_in z w area.Host) low gfn entry
     sound.holds.set_part (standing_leaf z w gfn low entry end_.0 sound end_.1 end_.2 leaf)
 
--- It is of the lowest level.
-pub leaves_are_lowest : (z : Sizes) (w : World Held) (gfn low entry : ℕ) → IsSound z w → gfn < 2 ^ 36
-    → LeadsTo (word_in z w area.Pool) 4 (word_in z w area.Root 0) gfn low entry → kind_of low entry ≡ entry_kind.Leaf → low ≡ 1
-leaves_are_lowest z w gfn low entry sound small leads leaf =
+-- It is the leaf of each guest frame of its span: the table that has it stands over all of them, and has them in one entry.
+pub leaves_cover_spans : (z : Sizes) (w : World Held) (gfn low entry : ℕ) → IsSound z w → gfn < 2 ^ 36
+    → LeadsTo (word_in z w area.Pool) 4 (word_in z w area.Root 0) gfn low entry → kind_of low entry ≡ entry_kind.Leaf
+    → CoversSpan (word_in z w area.Pool) (word_in z w area.Root 0) low gfn entry
+leaves_cover_spans z w gfn low entry sound small leads leaf =
     let end_ = from_root sound.topics.tree (let most = sound.holds.sizes.pool.1 in omega (arith, most)) gfn low entry small leads in
-    lowest_leaf z (view z w) sound.topics end_.0 low (gfn / level_span low / 512) (entry_index gfn low) gfn end_.1 (omega arith) (omega arith)
-    (ap (kind_of low) end_.2 ∙ leaf)
+    let from : 1 ≤ low = (sound.topics.tree.there end_.0 _ end_.1).1 in record {
+      from = from;
+      to = leaf_level low entry leaf;
+      leads = λ other in_run. (leads_down z w other end_.0 low low entry sound (end_.1 ∙ ap (λ n. Some (at low (n / 512))) (sym in_run))).above
+          (leads_at (word_in z w area.Pool) low end_.0 other entry from
+          (ap (λ n. word_in z w area.Pool (pool_index end_.0 (n % 512))) in_run ∙ end_.2) leaf);
+    }
 
 -- From a table that is held links lead where they lead from the root.
 pub held_leaves_agree : (z : Sizes) (w : World Held) (actor gfn low entry : ℕ) → IsSound z w → actor < actors_of z
@@ -196,7 +204,6 @@ held_leaves_agree z w actor gfn low entry sound lt over leads leaf =
 pub cached_leaves_agree : (z : Sizes) (w : World Held) (actor : ℕ) → IsSound z w → actor < actors_of z → CachedAgrees z w actor
 cached_leaves_agree z w actor sound lt = record {
   fits = sound.holds.cached actor lt;
-  lowest = sound.topics.lowest.cached actor lt;
   agrees = λ low may k d there gfn over. leaf_agrees z (word_in z w area.Slots 0) (word_in z w area.Role) (word_in z w area.Pool) (word_in z w area.Host)
       _ gfn _ sound.holds.set_part (sound.usable.agrees actor low may k d there gfn over);
   others = sound.usable.others actor lt;
@@ -212,7 +219,8 @@ pub used_leaves_agree : (z : Sizes) (w : World Held) (actor gfn word : ℕ) (op 
     → (hand_in mmu w actor).state.place ≡ place.Access Touch → (hand_in mmu w actor).state.line.command ≡ Access gfn word op
     → LeafAgrees (word_in z w area.Slots 0) (word_in z w area.Pool) (word_in z w area.Host) (hand_in mmu w actor).state.used.level gfn
     (hand_in mmu w actor).state.used.leaf
-    × (allows_access (is_write op) (hand_in mmu w actor).state.used.leaf ≡ true) × ((hand_in mmu w actor).state.used.level ≡ 1)
+    × (allows_access (is_write op) (hand_in mmu w actor).state.used.leaf ≡ true) × IsAtLeafLevel (hand_in mmu w actor).state.used
+    × (covers gfn (hand_in mmu w actor).state.used ≡ true)
 used_leaves_agree z w actor gfn word op sound lt at is =
     let I = sound.holds in
     let h : Held = hand_in mmu w actor in
@@ -221,9 +229,11 @@ used_leaves_agree z w actor gfn word op sound lt at is =
     let may : IsCommandFor z h.state.actor (Access gfn word op) =
     subst (IsCommandFor z h.state.actor) is (line_allowed z actor h (place.Access Touch) O at tt) in
     let low : actor < z.vcpus = subst (λ i. i < z.vcpus) O.index (vcpu_below z h.state.actor gfn word op may) in
-    let used = used_agrees z (view z w) actor gfn (is_write op) sound.usable low K.0.guest K.1 in (
+    let used = used_agrees z (view z w) actor gfn (is_write op) sound.usable low K.0.guest K.1 in
+    let fits = used_covers (FitsMachine z) gfn (is_write op) h.cached.items h.state.used (I.cached actor lt) K.1 in (
       leaf_agrees z (word_in z w area.Slots 0) (word_in z w area.Role) (word_in z w area.Pool) (word_in z w area.Host) h.state.used.level gfn
           h.state.used.leaf I.set_part used,
       uses_allows gfn (is_write op) h K.1,
-      (used_covers IsLowest gfn (is_write op) h.cached.items h.state.used (sound.topics.lowest.cached actor lt) K.1).0,
+      fits.0.level,
+      fits.1,
     )

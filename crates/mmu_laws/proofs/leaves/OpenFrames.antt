@@ -29,9 +29,9 @@ pub open_frames_are_recorded : (z : Sizes) (w : World Held) (actor gfn : ℕ) �
 open_frames_are_recorded z w actor gfn sound lt opened is_in = sound.topics.ranges actor gfn lt opened is_in
 
 pub open_frames_are_of_the_pages : (z : Sizes) (w : World Held) (actor : ℕ) (run : PageRun) → IsSound z w → actor < actors_of z → HasOpen w actor
-    → (own_of w actor).pages ≡ Some run → (run.level ≡ 1) × IsOfPages (word_in z w area.Pool) (word_in z w area.Slots 0) (own_of w actor)
+    → (own_of w actor).pages ≡ Some run → IsOfPages (word_in z w area.Pool) (word_in z w area.Slots 0) (own_of w actor)
 open_frames_are_of_the_pages z w actor run sound lt opened is =
-    (sound.topics.lowest.runs actor run lt is, sound.topics.scopes actor lt opened (ap (λ (o : Option PageRun). is_some o) is))
+    sound.topics.scopes actor lt opened (ap (λ (o : Option PageRun). is_some o) is)
 
 pub open_frames_are_zapped : (z : Sizes) (w : World Held) (actor gfn low entry : ℕ) → IsSound z w → actor < actors_of z → KeepsEmpty w actor
     → 1 ≤ (flush_of w actor).asked → IsIn (own_of w actor) gfn → LeadsTo (word_in z w area.Pool) 4 (word_in z w area.Root 0) gfn low entry

@@ -19,7 +19,7 @@ use Rattle.core_views.specs.Sizes.{actors_of}
 use Rattle.spte_words.specs.HostWords.{host_present, with_presence}
 use Rattle.spte_words.specs.declared.area.Area.TheVariants as area
 use Rattle.spte_words.specs.declared.spte_kind.SpteKind.TheVariants as entry_kind
-use Rattle.spte_words.specs.Areas.{place as place_of, pool_index}
+use Rattle.spte_words.specs.Areas.{pool_index}
 use Rattle.spte_words.specs.Entries.{can_write, kind_of, level_span}
 use Rattle.part_steps.specs.declared.part_step.PartStep.{PartStep}
 use Rattle.part_steps.specs.declared.part_step.PartStep.TheVariants as part
@@ -27,7 +27,7 @@ use Rattle.part_steps.specs.declared.task.Task.{Task}
 use Rattle.part_steps.specs.LockHoldings.{MayRelease}
 use Rattle.part_steps.specs.PartHoldings.{SawEntry}
 use Rattle.part_steps.specs.PartTasks.{entry_index, own_index, page_looked, part_task, table_page, word_looked}
-use Rattle.part_steps.specs.Tasks.{kind_of_task, map_of}
+use Rattle.part_steps.specs.Tasks.{kind_of_task}
 use Rattle.mmu_core.specs.alone.FaultAlone.{LeadsTo}
 use Rattle.mmu_core.specs.invariant.InvalidationsPart.{IsEntryStill}
 use Rattle.mmu_core.specs.invariant.Laws.{IsSound}
@@ -46,11 +46,9 @@ use Rattle.mmu_laws.specs.steps.InvalidationLaws.{BringsAbsentPage, BringsAreOfA
 use Rattle.mmu_laws.specs.steps.InvalidationLaws.{HasNoneLeft, ReleasesLeaveNothing, ZapsOwnFrame}
 use Rattle.mmu_laws.proofs.steps.ReleaseLaws.{none_left}
 use Rattle.mmu_laws.specs.steps.TouchLaws.{touches}
-use Rattle.mmu_core.proofs.held.LowestKept.{lowest_leaf}
 use Rattle.mmu_laws.proofs.causes.MadeSteps.{Makes, in_machine, own_sizes, word_on}
 use Rattle.mmu_laws.proofs.leaves.LeadsDown.{leads_at, leads_down}
 use Rattle.mmu_core.proofs.pages.EntryStill.{still_leaf}
-use Rattle.mmu_core.proofs.held.PageRuns.{one_run}
 
 -- A step of this kind is one of a part.
 abbrev pub IsOfPart : StepKind → Type 0
@@ -113,22 +111,20 @@ module _ (z : Sizes) (w : World Held) (s : Step Kind) (G : IsSound z w) (may : M
   page = table_page t.walk
 
   abbrev pub entry : ℕ → ℕ
-  entry gfn = pool (pool_index page (entry_index gfn 1))
+  entry gfn = pool (pool_index page (entry_index gfn t.walk.level))
 
-  -- A leaf that was seen under the lock alone is one of the lowest level still, to which links lead, and what it was where it allowed writes.
+  -- A leaf that was seen under the lock alone is one still, to which links lead, and what it was where it allowed writes.
   pub record SeenLeaf (gfn : ℕ) : Type 0 where
-    pub lowest : t.walk.level ≡ 1
-    pub leads : LeadsTo pool 4 (word_in z w area.Root 0) gfn 1 (entry gfn)
-    pub leaf : kind_of 1 (entry gfn) ≡ entry_kind.Leaf
+    pub leads : LeadsTo pool 4 (word_in z w area.Root 0) gfn t.walk.level (entry gfn)
+    pub leaf : kind_of t.walk.level (entry gfn) ≡ entry_kind.Leaf
     pub allows : can_write t.walk.entry ≡ true → can_write (entry gfn) ≡ true
 
   pub seen_leaf : (gfn : ℕ) → t.hold ≡ Exclusive → t.stay ≡ Outside → SawEntry gfn t.walk → kind_of t.walk.level t.walk.entry ≡ entry_kind.Leaf → SeenLeaf gfn
   seen_leaf gfn alone outside saw leaf = record {
-    lowest = lowest;
-    leads = (leads_down z w gfn page t.walk.level 1 (entry gfn) G stood).above
-        (subst (λ l. LeadsTo pool l page gfn 1 (entry gfn)) (sym lowest) (leads_at pool 1 page gfn (entry gfn) (omega arith) refl is_leaf));
-    leaf = is_leaf;
-    allows = λ writes. subst (λ l. can_write (pool (pool_index page (entry_index gfn l))) ≡ true) lowest (allowed writes still);
+    leads = (leads_down z w gfn page t.walk.level t.walk.level (entry gfn) G stood).above
+        (leads_at pool t.walk.level page gfn (entry gfn) saw.over.there refl here);
+    leaf = here;
+    allows = λ writes. allowed writes still;
   }
     where
       there : s.actor < actors_of z
@@ -140,27 +136,18 @@ module _ (z : Sizes) (w : World Held) (s : Step Kind) (G : IsSound z w) (may : M
       stood : stands G.topics.up G.topics.spot page ≡ Some (at t.walk.level (gfn / level_span t.walk.level / 512))
       stood = at_page ∙ ap (λ p. Some (at t.walk.level p)) (sym saw.over.span)
 
-      still : IsEntryStill t.walk.level (pool (pool_index page (entry_index gfn t.walk.level))) t.walk.entry
+      still : IsEntryStill t.walk.level (entry gfn) t.walk.entry
       still =
           let loaded = saw.loaded in
           subst (λ i. IsEntryStill t.walk.level (pool (pool_index page i)) t.walk.entry) loaded
           (G.topics.loaded s.actor there alone outside saw.over.there (omega (arith, loaded)))
 
-      here : kind_of t.walk.level (pool (pool_index page (entry_index gfn t.walk.level))) ≡ entry_kind.Leaf
+      here : kind_of t.walk.level (entry gfn) ≡ entry_kind.Leaf
       here = still_leaf t.walk.level _ t.walk.entry still leaf
 
-      allowed : can_write t.walk.entry ≡ true → IsEntryStill t.walk.level (pool (pool_index page (entry_index gfn t.walk.level))) t.walk.entry
-          → can_write (pool (pool_index page (entry_index gfn t.walk.level))) ≡ true
+      allowed : can_write t.walk.entry ≡ true → IsEntryStill t.walk.level (entry gfn) t.walk.entry → can_write (entry gfn) ≡ true
       allowed writes (inl same) = ap can_write same ∙ writes
       allowed writes (inr fixed) = let denied = fixed.denied in absurd (cc (denied, writes))
-
-      lowest : t.walk.level ≡ 1
-      lowest =
-          let span = saw.over.span in
-          lowest_leaf z (view z w) G.topics page t.walk.level t.walk.prefix (entry_index gfn t.walk.level) gfn at_page (omega arith) (omega (arith, span)) here
-
-      is_leaf : kind_of 1 (entry gfn) ≡ entry_kind.Leaf
-      is_leaf = subst (λ l. kind_of l (pool (pool_index page (entry_index gfn l))) ≡ entry_kind.Leaf) lowest here
 
   zaps_leaf : (gfn : ℕ) → Makes h s (part.Zap gfn) → ZapsOwnFrame z w s
   zaps_leaf gfn M =
@@ -170,8 +157,9 @@ module _ (z : Sizes) (w : World Held) (s : Step Kind) (G : IsSound z w) (may : M
         opened = M.needs.opened;
         gfn = gfn;
         of_own = (M.needs.from, M.needs.to);
+        level = t.walk.level;
         page = page;
-        on = word_on z w s G may (part.Zap gfn) M ∙ ap (λ l. place_of (map_of z) area.Pool (pool_index page (entry_index gfn l))) L.lowest;
+        on = word_on z w s G may (part.Zap gfn) M;
         leads = L.leads;
         leaf = L.leaf;
       }
@@ -188,8 +176,7 @@ module _ (z : Sizes) (w : World Held) (s : Step Kind) (G : IsSound z w) (may : M
         own_ = subst (λ (y : Sizes). is_own y h.state.actor (page_looked t.host) ≡ true) same N.own_;
         opened = N.opened;
         unraised = N.unraised;
-        invalid =
-            one_run (page_looked t.host) t.invalidations.own.pages (λ run. G.topics.lowest.runs s.actor run (omega (arith, may.there, G.hands))) N.invalid;
+        invalid = N.invalid;
         asked = subst (λ (y : Sizes). y.vcpus ≤ t.flush.asked) same N.asked;
         awaited = subst (λ (y : Sizes). y.vcpus ≤ t.flush.awaited) same N.awaited;
       }

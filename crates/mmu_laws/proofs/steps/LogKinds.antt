@@ -59,8 +59,9 @@ module _ (z : Sizes) (w : World Held) (s : Step Kind) (G : IsSound z w) (may : M
       record {
         alone = M.needs.alone;
         gfn = gfn;
+        level = t.walk.level;
         page = page;
-        on = word_on z w s G may (part.Protect gfn) M ∙ ap (λ l. place_of (map_of z) area.Pool (pool_index page (entry_index gfn l))) L.lowest;
+        on = word_on z w s G may (part.Protect gfn) M;
         leads = L.leads;
         leaf = L.leaf;
         allowed = L.allows M.needs.writes;

@@ -20,8 +20,9 @@ use Rattle.mmu_core.specs.forms.access.FaultSteps.{allows_access}
 use Rattle.mmu_core.specs.invariant.CachedPart.{FitsMachine}
 use Rattle.mmu_core.specs.invariant.InvalidatedPart.{may_use}
 use Rattle.mmu_core.specs.invariant.Laws.{IsSound}
-use Rattle.mmu_core.specs.invariant.LowestPart.{IsLowest}
+use Rattle.mmu_core.specs.invariant.RunsPart.{IsInRun}
 use Rattle.mmu_core.specs.machine.Machine.{World, hand_in}
+use Rattle.part_steps.specs.PartBounds.{IsAtLeafLevel}
 use Rattle.part_steps.specs.PartTasks.{table_page}
 use Rattle.part_steps.specs.PartHoldings.{IsOver}
 use Rattle.part_steps.specs.SlotWords.{slots_below}
@@ -54,18 +55,23 @@ HeldLeavesAgree =
     → LeadsTo (word_in z w area.Pool) (hand_in mmu w actor).topics.walk.level (table_page (hand_in mmu w actor).topics.walk) gfn at entry
     → kind_of at entry ≡ entry_kind.Leaf → LeafAgrees (word_in z w area.Slots 0) (word_in z w area.Pool) (word_in z w area.Host) at gfn entry
 
--- Each leaf to which links lead is of the lowest level: no line makes a large host page.
-abbrev pub LeavesAreLowest : Type 0
-LeavesAreLowest =
-    (z : Sizes) (w : World Held) (gfn at entry : ℕ) → IsSound z w → gfn < 2 ^ 36
-    → LeadsTo (word_in z w area.Pool) 4 (word_in z w area.Root 0) gfn at entry → kind_of at entry ≡ entry_kind.Leaf → at ≡ 1
+-- The level is one that has leaves, and links lead each guest frame of its span to this same entry.
+pub record CoversSpan (pool : ℕ → ℕ) (root level gfn entry : ℕ) : Type 0 where
+  pub from : 1 ≤ level
+  pub to : level ≤ 3
+  pub leads : (other : ℕ) → IsInRun level gfn other → LeadsTo pool 4 root other level entry
 
--- What an actor has cached is of levels that have leaves, and of the lowest one, at frames of the machine. What a virtual processor may use of it agrees, of
--- each guest frame that a translation covers: all that it has cached, while it is in the guest or no flush is asked of it. An actor that is no virtual
--- processor has nothing cached.
+-- So it is with each leaf to which links lead a guest frame from the root.
+abbrev pub LeavesCoverSpans : Type 0
+LeavesCoverSpans =
+    (z : Sizes) (w : World Held) (gfn at entry : ℕ) → IsSound z w → gfn < 2 ^ 36
+    → LeadsTo (word_in z w area.Pool) 4 (word_in z w area.Root 0) gfn at entry → kind_of at entry ≡ entry_kind.Leaf
+    → CoversSpan (word_in z w area.Pool) (word_in z w area.Root 0) at gfn entry
+
+-- What an actor has cached is of levels that have leaves, at frames of the machine. What a virtual processor may use of it agrees, of each guest frame that a
+-- translation covers: all that it has cached, while it is in the guest or no flush is asked of it. An actor that is no virtual processor has nothing cached.
 pub record CachedAgrees (z : Sizes) (w : World Held) (actor : ℕ) : Type 0 where
   pub fits : All (FitsMachine z) (hand_in mmu w actor).cached.items
-  pub lowest : All IsLowest (hand_in mmu w actor).cached.items
   pub agrees : actor < z.vcpus → may_use (word_in z w area.State actor) (hand_in mmu w actor).topics.stay ≡ true
       → All (λ t. (gfn : ℕ) → covers gfn t ≡ true
       → LeafAgrees (word_in z w area.Slots 0) (word_in z w area.Pool) (word_in z w area.Host) t.level gfn t.leaf) (hand_in mmu w actor).cached.items
@@ -75,11 +81,12 @@ pub record CachedAgrees (z : Sizes) (w : World Held) (actor : ℕ) : Type 0 wher
 abbrev pub CachedLeavesAgree : Type 0
 CachedLeavesAgree = (z : Sizes) (w : World Held) (actor : ℕ) → IsSound z w → actor < actors_of z → CachedAgrees z w actor
 
--- The leaf by which an access is about to touch agrees, allows the access, and is of the lowest level.
+-- The leaf by which an access is about to touch agrees, allows the access, is of a level that has leaves, and covers the guest frame.
 abbrev pub UsedLeavesAgree : Type 0
 UsedLeavesAgree =
     (z : Sizes) (w : World Held) (actor gfn word : ℕ) (op : Op) → IsSound z w → actor < actors_of z
     → (hand_in mmu w actor).state.place ≡ place.Access Touch → (hand_in mmu w actor).state.line.command ≡ Access gfn word op
     → LeafAgrees (word_in z w area.Slots 0) (word_in z w area.Pool) (word_in z w area.Host) (hand_in mmu w actor).state.used.level gfn
     (hand_in mmu w actor).state.used.leaf
-    × (allows_access (is_write op) (hand_in mmu w actor).state.used.leaf ≡ true) × ((hand_in mmu w actor).state.used.level ≡ 1)
+    × (allows_access (is_write op) (hand_in mmu w actor).state.used.leaf ≡ true) × IsAtLeafLevel (hand_in mmu w actor).state.used
+    × (covers gfn (hand_in mmu w actor).state.used ≡ true)

@@ -35,11 +35,11 @@ OpenFramesAreRecorded =
     (z : Sizes) (w : World Held) (actor gfn : ℕ) → IsSound z w → actor < actors_of z → HasOpen w actor → IsIn (own_of w actor) gfn
     → (word_in z w area.RangeStart 0 ≤ gfn) × (gfn < word_in z w area.RangeEnd 0) × (gfn < 2 ^ 36)
 
--- Where it is of a run of host pages, it is of the guest frames that the published slots give to these pages, and of no others; and the run is one page.
+-- Where it is of a run of host pages, it is of the guest frames that the published slots give to these pages, and of no others.
 abbrev pub OpenFramesAreOfThePages : Type 0
 OpenFramesAreOfThePages =
     (z : Sizes) (w : World Held) (actor : ℕ) (run : PageRun) → IsSound z w → actor < actors_of z → HasOpen w actor → (own_of w actor).pages ≡ Some run
-    → (run.level ≡ 1) × IsOfPages (word_in z w area.Pool) (word_in z w area.Slots 0) (own_of w actor)
+    → IsOfPages (word_in z w area.Pool) (word_in z w area.Slots 0) (own_of w actor)
 
 -- It is open, of a host page; or it is of a slot, and its actor has yet to publish the slot set that takes the place of the one with this slot.
 abbrev pub KeepsEmpty : World Held → ℕ → Type 0

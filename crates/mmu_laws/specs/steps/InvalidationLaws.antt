@@ -28,7 +28,7 @@ use Rattle.mmu_core.specs.invariant.Laws.{IsSound}
 use Rattle.mmu_core.specs.machine.Enabled.{mmu}
 use Rattle.mmu_core.specs.machine.Machine.{May, Step, World, effect, hand_in}
 use Rattle.mmu_core.specs.machine.View.{word_in}
-use Rattle.part_steps.specs.InvalidationRange.{run_of}
+use Rattle.part_steps.specs.InvalidationRange.{IsOnRun}
 
 -- what the actor holds that makes the step
 abbrev pub held_by : World Held → Step Kind → Topics
@@ -77,32 +77,33 @@ ReleasesLeaveNothing =
     (z : Sizes) (w : World Held) (s : Step Kind) → IsSound z w → May mmu w s → kind_named s.kind.code ≡ kind.Release
     → MayRelease (hand_in mmu w s.actor) × (has_line (hand_in mmu w s.actor) ≡ true → HasNoneLeft (held_by w s))
 
--- The actor has the lock alone, and its own invalidation is open; the step's word is the entry of the lowest level to which links lead from the root a guest
--- frame that this invalidation is of, and a leaf.
+-- The actor has the lock alone, and its own invalidation is open; the step's word is the entry, of a table of this level, to which links lead from the root a
+-- guest frame that this invalidation is of, and a leaf.
 pub record ZapsOwnFrame (z : Sizes) (w : World Held) (s : Step Kind) : Type 0 where
   pub alone : (held_by w s).hold ≡ Exclusive
   pub opened : (held_by w s).invalidations.opened ≡ true
   pub gfn : ℕ
   pub of_own : IsIn (held_by w s).invalidations.own gfn
+  pub level : ℕ
   pub page : ℕ
-  pub on : s.kind.word ≡ place (map_of z) area.Pool (pool_index page (entry_index gfn 1))
-  pub leads : LeadsTo (word_in z w area.Pool) 4 (word_in z w area.Root 0) gfn 1 (word_in z w area.Pool (pool_index page (entry_index gfn 1)))
-  pub leaf : kind_of 1 (word_in z w area.Pool (pool_index page (entry_index gfn 1))) ≡ Leaf
+  pub on : s.kind.word ≡ place (map_of z) area.Pool (pool_index page (entry_index gfn level))
+  pub leads : LeadsTo (word_in z w area.Pool) 4 (word_in z w area.Root 0) gfn level (word_in z w area.Pool (pool_index page (entry_index gfn level)))
+  pub leaf : kind_of level (word_in z w area.Pool (pool_index page (entry_index gfn level))) ≡ Leaf
 
 -- So is each step that zaps.
 abbrev pub ZapsAreOfOpenInvalidations : Type 0
 ZapsAreOfOpenInvalidations =
     (z : Sizes) (w : World Held) (s : Step Kind) → IsSound z w → May mmu w s → kind_named s.kind.code ≡ kind.Zap → ZapsOwnFrame z w s
 
--- The step is on the host word of a page of its actor's own, and the actor's own invalidation of this page is open, with no number raised for it yet; each
--- virtual processor was asked for a flush, and awaited.
+-- The step is on the host word of a page of its actor's own, and an invalidation of the actor's own is open of a run that has this page, with no number raised
+-- for it yet; each virtual processor was asked for a flush, and awaited.
 pub record ChangesOwnPage (z : Sizes) (w : World Held) (s : Step Kind) : Type 0 where
   pub page : ℕ
   pub on : s.kind.word ≡ place (map_of z) area.Host page
   pub own_ : is_own z (hand_in mmu w s.actor).state.actor page ≡ true
   pub opened : (held_by w s).invalidations.opened ≡ true
   pub unraised : (held_by w s).invalidations.raised ≡ false
-  pub invalid : (held_by w s).invalidations.own.pages ≡ Some (run_of page)
+  pub invalid : IsOnRun page (held_by w s).invalidations.own.pages
   pub asked : z.vcpus ≤ (held_by w s).flush.asked
   pub awaited : z.vcpus ≤ (held_by w s).flush.awaited
 

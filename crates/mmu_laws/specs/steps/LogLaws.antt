@@ -24,16 +24,17 @@ use Rattle.mmu_core.specs.machine.Machine.{May, Step, World, answered, effect, h
 use Rattle.mmu_core.specs.machine.View.{word_in}
 use Rattle.mmu_laws.specs.steps.InvalidationLaws.{held_by}
 
--- The actor has the lock alone; the step's word is the entry of the lowest level to which links lead a guest frame from the root, and a leaf that allows
+-- The actor has the lock alone; the step's word is the entry, of a table of this level, to which links lead a guest frame from the root, and a leaf that allows
 -- writes; and the step takes its Writable bit away, and no other.
 pub record ProtectsLeaf (z : Sizes) (w : World Held) (s : Step Kind) : Type 0 where
   pub alone : (held_by w s).hold ≡ Exclusive
   pub gfn : ℕ
+  pub level : ℕ
   pub page : ℕ
-  pub on : s.kind.word ≡ place (map_of z) area.Pool (pool_index page (entry_index gfn 1))
-  pub leads : LeadsTo (word_in z w area.Pool) 4 (word_in z w area.Root 0) gfn 1 (word_in z w area.Pool (pool_index page (entry_index gfn 1)))
-  pub leaf : kind_of 1 (word_in z w area.Pool (pool_index page (entry_index gfn 1))) ≡ Leaf
-  pub allowed : can_write (word_in z w area.Pool (pool_index page (entry_index gfn 1))) ≡ true
+  pub on : s.kind.word ≡ place (map_of z) area.Pool (pool_index page (entry_index gfn level))
+  pub leads : LeadsTo (word_in z w area.Pool) 4 (word_in z w area.Root 0) gfn level (word_in z w area.Pool (pool_index page (entry_index gfn level)))
+  pub leaf : kind_of level (word_in z w area.Pool (pool_index page (entry_index gfn level))) ≡ Leaf
+  pub allowed : can_write (word_in z w area.Pool (pool_index page (entry_index gfn level))) ≡ true
   pub keeps : s.kind.new ≡ all_but write_bit
 
 -- So is each step that forbids writes.

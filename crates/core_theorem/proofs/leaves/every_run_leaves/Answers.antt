@@ -1,4 +1,4 @@
-use Rattle.mmu_laws.proofs.leaves.LeafLaws.{cached_leaves_agree, leaves_agree, leaves_are_lowest, used_leaves_agree}
+use Rattle.mmu_laws.proofs.leaves.LeafLaws.{cached_leaves_agree, leaves_agree, leaves_cover_spans, used_leaves_agree}
 use Rattle.mmu_laws.proofs.leaves.OpenFrames.{open_frames_are_flushed, open_frames_are_of_the_pages, open_frames_are_recorded, open_frames_are_zapped}
 use Rattle.core_theorem.proofs.LookUps.{found_slots_are_held, fresh_look_ups_are_true, held_slots_stand, looked_up_pages_stand}
 use Rattle.core_theorem.proofs.Runs.{sound}
@@ -11,8 +11,8 @@ returns-clause-leaves c z lines w ss R gfn low entry small leads leaf = leaves_a
 pub returns-clause-held : goal.returns-clause-held
 returns-clause-held c = held_leaves_are_linked
 
-pub returns-clause-lowest : goal.returns-clause-lowest
-returns-clause-lowest c z lines w ss R gfn low entry small leads leaf = leaves_are_lowest z _ gfn low entry (sound z lines w ss R) small leads leaf
+pub returns-clause-spans : goal.returns-clause-spans
+returns-clause-spans c z lines w ss R gfn low entry small leads leaf = leaves_cover_spans z _ gfn low entry (sound z lines w ss R) small leads leaf
 
 pub returns-clause-translations : goal.returns-clause-translations
 returns-clause-translations c z lines w ss R actor there = cached_leaves_agree z _ actor (sound z lines w ss R) there

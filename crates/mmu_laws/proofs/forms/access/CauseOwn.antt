@@ -55,7 +55,7 @@ use Rattle.mmu_core.proofs.orders.ClaimMade.{claim_made, claim_walk}
 use Rattle.mmu_laws.proofs.forms.access.EachFault.{NextIs}
 use Rattle.mmu_core.proofs.forms.access.FaultSame.{over_it}
 use Rattle.mmu_laws.proofs.causes.MadeSteps.{Makes, exchange_finds, in_machine, load_finds, load_keeps, own_rests, own_sizes, stays_in, word_on}
-use Rattle.mmu_laws.proofs.causes.EntryLoaded.{fill_spares, kinds, low}
+use Rattle.mmu_laws.proofs.causes.EntryLoaded.{fill_spares, low, unfrozen}
 use Rattle.core_views.specs.declared.place.FaultEnd.{FaultEnd}
 use Rattle.part_steps.specs.PartHoldings.{is_fixable}
 use Rattle.part_steps.specs.RunHoldings.{maps_run}
@@ -213,7 +213,7 @@ module _ (z : Sizes) (w : World Held) (ss : List (Step Kind)) (s : Step Kind) (G
   walk_saw gfn write entry_kind.Leaf is M =
       either (allows_access write v) (Unshare Installed) (end_next gfn write t) gfn (gone gfn entry_kind.Leaf) tt (end_saw gfn write entry_kind.Leaf refl M)
   walk_saw gfn write entry_kind.Absent is M = end_saw gfn write entry_kind.Absent refl M
-  walk_saw gfn write entry_kind.Frozen is M = absurd ((kinds z u s G may gfn M).1 is)
+  walk_saw gfn write entry_kind.Frozen is M = absurd (unfrozen z u s G may gfn M is)
 
   claim_longer : (gfn : ℕ) (tries : Bool) (word : ℕ) → Made (if tries then part.Claim else part.Map word) → 1 ≤ t.walk.level → EntryIs gfn t.walk.entry ss u
       → EntryIs gfn t.walk.entry more behind

@@ -1,4 +1,4 @@
-use Rattle.mmu_laws.proofs.leaves.LeafLaws.{cached_leaves_agree, held_leaves_agree, leaves_agree, leaves_are_lowest, used_leaves_agree}
+use Rattle.mmu_laws.proofs.leaves.LeafLaws.{cached_leaves_agree, held_leaves_agree, leaves_agree, leaves_cover_spans, used_leaves_agree}
 use Rattle.mmu_laws.proofs.leaves.OpenFrames.{open_frames_are_flushed, open_frames_are_of_the_pages, open_frames_are_recorded, open_frames_are_zapped}
 use Rattle.mmu_laws.proofs.laws.leaves_agree.Goals as goal
 
@@ -8,8 +8,8 @@ returns-clause-standing c = leaves_agree
 pub returns-clause-held : goal.returns-clause-held
 returns-clause-held c = held_leaves_agree
 
-pub returns-clause-lowest : goal.returns-clause-lowest
-returns-clause-lowest c = leaves_are_lowest
+pub returns-clause-spans : goal.returns-clause-spans
+returns-clause-spans c = leaves_cover_spans
 
 pub returns-clause-cached : goal.returns-clause-cached
 returns-clause-cached c = cached_leaves_agree
