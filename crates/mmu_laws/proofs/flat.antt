@@ -14,6 +14,7 @@ pub mod LogsStill
 pub mod ChangedSlots
 pub mod LogsKept
 pub mod EveryLog
+pub mod EachStep
 pub mod ArmedSlots
 pub mod AwaitLogs
 pub mod LineEvents

@@ -28,6 +28,7 @@ ghost use Rattle.mmu_core.specs.alone.FaultAlone.{FaultGoesThrough, LeadsDown};
 ghost use Rattle.mmu_core.specs.forms.access.FaultLaws.{FaultIsBounded, FaultMeetsNeeds, FaultStaysKnown, FaultStepsFall, PartsAnswer};
 ghost use Rattle.mmu_core.specs.lines.PartWaits.{WaitsSeeAnother};
 ghost use Rattle.mmu_laws.specs.forms.log.LogCommandLaws.{BadRangesAreRefused, ClearsAskForNamed, GetsAskForAll, ReadingsAreOfLogs};
+ghost use Rattle.mmu_laws.specs.flat.EachStep.{EachStepCoversWrites, EachStepStandsOn, EachStepStaysSound, EachStepTellsLawfully, StartsStand};
 ghost use Rattle.mmu_laws.specs.flat.FlatLogs.{LogsAreFlat};
 ghost use Rattle.mmu_laws.specs.flat.Histories.{AnswersAreTold, EndsWhole, StaysWhole};
 ghost use Rattle.mmu_core.specs.invariant.Laws.{StaysSound, TellsLawfully};
@@ -71,6 +72,21 @@ pub fn every_list_of_steps()
     ensures logs { LogsAreFlat }
     ensures armed { ArmedSlotsAreCovered }
     ensures starved { StarvedLinesScan }
+{}
+
+/// What one step keeps, of any actor, from any sound world, whether or not steps lead there
+/// from a start. The host may map pages at any level there, though no line does so yet. The world
+/// after a step that may be made is sound. Where writes to slots with dirty logs are covered, or excused,
+/// they are so after it. And where words and hands stand for the flat state that a lawful
+/// history leaves, what the step tells is what this flat state allows, and the words and hands
+/// after it stand for the history with these events. The start stands for the empty history, so
+/// `sound`, `lawful` and `logs` of `every_list_of_steps` follow, step by step.
+pub fn each_step_keeps_the_invariant()
+    ensures sound { EachStepStaysSound }
+    ensures covered { EachStepCoversWrites }
+    ensures lawful { EachStepTellsLawfully }
+    ensures stands { EachStepStandsOn }
+    ensures starts { StartsStand }
 {}
 
 /// What stands in an actor's way is another actor's, in every list of steps. A fault

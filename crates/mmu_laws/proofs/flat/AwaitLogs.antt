@@ -48,7 +48,8 @@ use Rattle.mmu_laws.specs.flat.FlatInvariant.{FlatInvariant}
 use Rattle.mmu_laws.specs.flat.FlatLogs.{FlatLogs, FlatLogsOf, IsArmedIn, IsBeginning, IsDirtyIn}
 use Rattle.mmu_laws.proofs.flat.BeginningsKept.{beginning_before, beginning_is, told_later}
 use Rattle.mmu_laws.proofs.flat.FlatKept.{told_events}
-use Rattle.mmu_laws.proofs.forms.slot_change.GivenLogs.{HasGiven, LogsGiven, given_here}
+use Rattle.mmu_laws.specs.forms.slot_change.GivenLogs.{HasGiven, LogsGiven}
+use Rattle.mmu_laws.proofs.forms.slot_change.GivenLogs.{given_here}
 use Rattle.mmu_laws.proofs.flat.LogBeginnings.{none_begins}
 use Rattle.mmu_laws.proofs.flat.LogsStill.{logged_still, logs_still}
 use Rattle.mmu_laws.proofs.flat.Told.{told}

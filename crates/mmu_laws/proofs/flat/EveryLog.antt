@@ -31,11 +31,12 @@ use Rattle.mmu_laws.specs.flat.FlatInvariant.{FlatInvariant}
 use Rattle.mmu_laws.specs.flat.FlatLogs.{FlatLogs, LogsAreFlat}
 use Rattle.mmu_laws.proofs.flat.FlatKept.{flat_kept, told_events, told_is_events}
 use Rattle.mmu_laws.proofs.flat.FlatRuns.{after_append, part_keeps_flat, start_flat}
-use Rattle.mmu_laws.proofs.forms.slot_change.GivenLogs.{HasGiven, LogsGiven, given_kept, idle_given_kept}
+use Rattle.mmu_laws.specs.forms.slot_change.GivenLogs.{HasGiven, LogsGiven}
+use Rattle.mmu_laws.proofs.forms.slot_change.GivenLogs.{given_kept, idle_given_kept}
 use Rattle.mmu_laws.proofs.flat.LogsKept.{ReadyLogs, logs_kept}
 use Rattle.mmu_laws.proofs.flat.LogsStill.{idle_logs_still}
 use Rattle.mmu_laws.proofs.forms.log.ReadingEnds.{reads_well_at}
-use Rattle.mmu_laws.proofs.forms.log.Readings.{ReadSoFarAt, Readings}
+use Rattle.mmu_laws.specs.forms.log.ReadSoFar.{ReadSoFarAt, Readings}
 use Rattle.mmu_laws.proofs.forms.log.ReadingsKept.{idle_readings_kept, readings_kept}
 
 -- A sound world that stands for a flat state, with its dirty logs.
@@ -127,7 +128,7 @@ module _ (z : Sizes) (w : World Held) (f : Flat) (s : Step Kind) (H : LogsHold z
       )
 
 -- Each step that may be made keeps it, with what it tells.
-logs_step : (z : Sizes) (w : World Held) (f : Flat) (s : Step Kind) → LogsHold z w f → May mmu w s
+pub logs_step : (z : Sizes) (w : World Held) (f : Flat) (s : Step Kind) → LogsHold z w f → May mmu w s
     → LeavesLogs z (effect mmu w s) f (events_of (hand_in mmu w s.actor) (answered mmu w s.kind))
 logs_step z w f s H may = by (takes z w s H.sound may)
   where

@@ -31,12 +31,12 @@ use Rattle.mmu_laws.specs.flat.FlatInvariant.{FlatInvariant}
 use Rattle.mmu_laws.specs.flat.FlatLogs.{FlatLogs}
 use Rattle.mmu_laws.proofs.flat.AwaitLogs.{await_logs}
 use Rattle.mmu_laws.proofs.flat.FlatKept.{told_events, told_kinds}
-use Rattle.mmu_laws.proofs.forms.slot_change.GivenLogs.{LogsGiven}
+use Rattle.mmu_laws.specs.forms.slot_change.GivenLogs.{LogsGiven}
 use Rattle.mmu_laws.proofs.forms.log.HarvestLogs.{harvest_logs}
 use Rattle.mmu_laws.proofs.flat.LogsStill.{logs_still}
 use Rattle.mmu_laws.proofs.forms.slot_change.PublishLogs.{publish_logs}
 use Rattle.mmu_laws.proofs.flat.QuietKinds.{answers_quiet, begins_quiet, quiet_append, quiet_told, tells_of_logs, tells_quiet}
-use Rattle.mmu_laws.proofs.forms.log.Readings.{Readings}
+use Rattle.mmu_laws.specs.forms.log.ReadSoFar.{Readings}
 use Rattle.mmu_laws.proofs.forms.log.TakenStays.{ends_taking}
 use Rattle.mmu_laws.proofs.forms.access.TouchLogs.{touch_logs}
 

@@ -1,5 +1,6 @@
 pub mod LogCommandLaws
 pub mod LogStages
+pub mod ReadSoFar
 pub mod ReadingsAlone
 pub mod ExampleReads
 pub mod ExampleOwed

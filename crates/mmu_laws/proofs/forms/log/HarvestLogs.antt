@@ -54,7 +54,7 @@ use Rattle.mmu_laws.proofs.flat.FlatKept.{told_events}
 use Rattle.mmu_laws.proofs.forms.log.HarvestFrames.{among_read, read_among}
 use Rattle.mmu_laws.proofs.flat.LogsStill.{armed_still, bit_was, caused_still, dirty_still, logged_before_it}
 use Rattle.mmu_laws.proofs.flat.QuietKinds.{answers_quiet, quiet_told}
-use Rattle.mmu_laws.proofs.forms.log.Readings.{HasReadTo, ReadSoFar, ReadSoFarAt, Readings}
+use Rattle.mmu_laws.specs.forms.log.ReadSoFar.{HasReadTo, ReadSoFar, ReadSoFarAt, Readings}
 use Rattle.mmu_laws.proofs.forms.log.ReadSlots.{ReadsOf, one_slot, reads_of}
 use Rattle.mmu_laws.proofs.forms.log.TakenStays.{taken_here, taken_then}
 use Rattle.mmu_laws.proofs.flat.Told.{told}

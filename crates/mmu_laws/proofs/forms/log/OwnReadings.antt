@@ -21,7 +21,8 @@ use Rattle.mmu_core.specs.machine.View.{words_after}
 use Rattle.mmu_core.proofs.forms.log.LogNeeds.{mask_small}
 use Rattle.mmu_core.proofs.machine.Columns.{upd_other, upd_same}
 use Rattle.log_invariant.specs.Covered.{is_marked}
-use Rattle.mmu_laws.proofs.forms.log.Readings.{HasReadTo, IsWhole, ReadsWord, word_is_read}
+use Rattle.mmu_laws.specs.forms.log.ReadSoFar.{HasReadTo}
+use Rattle.mmu_laws.proofs.forms.log.Readings.{IsWhole, ReadsWord, word_is_read}
 
 -- ---- the words of the log after the step
 

@@ -43,7 +43,8 @@ use Rattle.mmu_laws.proofs.flat.FlatKept.{told_events}
 use Rattle.mmu_laws.proofs.flat.LogsKept.{ReadyLogs}
 use Rattle.mmu_laws.proofs.forms.log.OwnReadings.{reads_more, take_reads}
 use Rattle.mmu_laws.proofs.forms.log.PagePlaces.{each_entry, each_page}
-use Rattle.mmu_laws.proofs.forms.log.Readings.{HasReadTo, ReadSoFar, ReadsWord}
+use Rattle.mmu_laws.specs.forms.log.ReadSoFar.{HasReadTo, ReadSoFar}
+use Rattle.mmu_laws.proofs.forms.log.Readings.{ReadsWord}
 use Rattle.mmu_laws.proofs.forms.log.ReadSlots.{ReadsOf}
 use Rattle.mmu_laws.proofs.forms.log.ReadingSteps.{after, begins, begun, causes, first_peek, found_is, had, knows, last_word, named, next_peek, task_is}
 use Rattle.mmu_laws.proofs.forms.log.ReadingSteps.{then_, topics, x}

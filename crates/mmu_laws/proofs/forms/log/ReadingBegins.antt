@@ -36,7 +36,8 @@ use Rattle.mmu_laws.specs.flat.FlatLogs.{FlatLogs, IsCoveredOrTaken, IsDirtyIn}
 use Rattle.mmu_laws.proofs.flat.FlatKept.{other_actor}
 use Rattle.mmu_laws.proofs.flat.LogsStill.{writes_frame}
 use Rattle.mmu_laws.proofs.flat.QuietKinds.{begins_quiet, quiet_told}
-use Rattle.mmu_laws.proofs.forms.log.Readings.{HasReadTo, asked_from, none_read}
+use Rattle.mmu_laws.specs.forms.log.ReadSoFar.{HasReadTo}
+use Rattle.mmu_laws.proofs.forms.log.Readings.{asked_from, none_read}
 use Rattle.mmu_laws.proofs.forms.log.ReadSlots.{ReadsOf, one_slot, taken_is}
 use Rattle.mmu_laws.proofs.flat.Told.{told, told_others}
 

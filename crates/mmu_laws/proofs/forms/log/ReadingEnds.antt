@@ -21,7 +21,7 @@ use Rattle.mmu_laws.proofs.flat.FlatKept.{ReadsWellOf}
 use Rattle.mmu_laws.proofs.forms.log.LogAnswers.{ReadsWell}
 use Rattle.mmu_laws.proofs.flat.LogsKept.{ReadyLogs}
 use Rattle.mmu_laws.proofs.forms.log.ReadingBegins.{begun_flat}
-use Rattle.mmu_laws.proofs.forms.log.Readings.{HasReadTo}
+use Rattle.mmu_laws.specs.forms.log.ReadSoFar.{HasReadTo}
 use Rattle.mmu_laws.proofs.forms.log.ReadingSteps.{all_asked, first_peek, had, knows, last_word, may_read, next_peek, taken_flat}
 use Rattle.mmu_core.specs.machine.Steps.{task_at}
 

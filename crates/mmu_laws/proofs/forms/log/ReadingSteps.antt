@@ -52,7 +52,8 @@ use Rattle.mmu_laws.proofs.flat.LogsKept.{ReadyLogs}
 use Rattle.mmu_laws.proofs.forms.log.OwnReadings.{peek_reads, reads_more}
 use Rattle.mmu_laws.proofs.flat.QuietKinds.{quiet_told}
 use Rattle.mmu_laws.proofs.forms.log.ReadingBegins.{are_written, begins_reading, begun_facts, begun_flat, begun_logs}
-use Rattle.mmu_laws.proofs.forms.log.Readings.{HasReadTo, ReadSoFar, may_harvest}
+use Rattle.mmu_laws.specs.forms.log.ReadSoFar.{HasReadTo, ReadSoFar}
+use Rattle.mmu_laws.proofs.forms.log.Readings.{may_harvest}
 use Rattle.mmu_laws.proofs.forms.log.ReadSlots.{ReadsOf, reads_of}
 use Rattle.mmu_laws.proofs.forms.log.TakenStays.{taken_here}
 use Rattle.mmu_laws.proofs.flat.Told.{told}

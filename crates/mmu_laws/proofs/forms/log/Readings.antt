@@ -4,80 +4,29 @@ use Rattle.std.proofs.Common.{◌≡◌, ◌≢◌, ◌⊎◌, inl, inr, ◌+◌
 use Rattle.std.proofs.Common.{ap, refl, subst, sym, ◌∙◌}
 use Rattle.std.specs.Int.{bit_at}
 use Rattle.std.specs.Int.Bits.{bit_and}
-use Rattle.std.specs.Prelude.{List, [], ◌∷◌, None, Option, Some, is_some, if◌then◌else◌}
-use Rattle.core_views.specs.declared.place.LogPlace.{LogPlace}
-use Rattle.core_views.specs.declared.place.LogPlace.TheVariants.{Take, Peek}
-use Rattle.core_views.specs.declared.place.Place.{Place}
-use Rattle.core_views.specs.declared.sizes.Sizes.{Sizes}
+use Rattle.std.specs.Prelude.{List, [], ◌∷◌, Some, is_some}
 use Rattle.core_views.specs.declared.memory_slot.MemorySlot.{MemorySlot}
 use Rattle.core_views.specs.declared.trace.Command.{Command}
 use Rattle.core_views.specs.declared.trace.Slot.{Slot as SlotOf}
-use Rattle.core_views.specs.Flat.{Facts, Flat}
+use Rattle.core_views.specs.Flat.{Facts}
 use Rattle.core_views.specs.Harvests.{IsHarvest}
-use Rattle.core_views.specs.Held.{Held}
 use Rattle.core_views.specs.LogCommands.{asks_for, count_asked, first_asked, log_read, mask_asked}
 use Rattle.core_views.specs.Past.{Past}
-use Rattle.core_views.specs.Sizes.{actors_of}
 use Rattle.core_views.specs.Slots.{contains}
 use Rattle.core_views.specs.SlotSets.{slot_of_id}
 use Rattle.spte_words.specs.Bits.{has_bit}
-use Rattle.spte_words.specs.declared.area.Area.TheVariants as area
 use Rattle.part_steps.specs.SlotWords.{page_of}
 use Rattle.mmu_core.specs.forms.log.LogKnows.{AreAsked}
-use Rattle.mmu_core.specs.forms.log.LogSteps.{first_word, frame_asked, frames_read, mask_read, slot_asked, word_end, word_read}
-use Rattle.mmu_core.specs.machine.View.{View}
+use Rattle.mmu_core.specs.forms.log.LogSteps.{first_word, frame_asked, frames_read, mask_read, word_end}
 use Rattle.mmu_core.proofs.machine.Columns.{same_or}
 use Rattle.log_invariant.specs.Covered.{is_marked}
 use Rattle.log_invariant.specs.forms.log.LogReads.{IsRead}
-use Rattle.mmu_core.specs.forms.log.Readings.{has_begun}
-use Rattle.mmu_core.specs.forms.log.Readings.{Reading, reading_at}
 use Rattle.log_invariant.proofs.LogBits.{bit_of_both, bit_of_mask, both_bits}
 use Rattle.log_invariant.proofs.forms.log.ReadFrames.{newly_read, read_still, read_was}
+use Rattle.mmu_laws.specs.forms.log.ReadSoFar.{HasReadTo}
 use Rattle.mmu_laws.proofs.forms.log.AskedPages.{IsAskedFrame, IsReadPage, asked_frame, bit_is_at, bit_within, frame_inside, mask_has}
 use Rattle.mmu_laws.proofs.forms.log.AskedPages.{read_asked, read_inside, read_page}
 use Rattle.mmu_laws.proofs.forms.log.HarvestFrames.{among_read, frames_rise, read_among}
-
--- ---- where a line stands
-
--- It takes out what it reads.
-abbrev pub clears : LogPlace → Bool
-clears (Peek begun) = false
-clears _ = true
-
--- what it has read, and the word that comes next
-abbrev pub words_at : LogPlace → Held → List ℕ
-words_at (Take begun) h = if begun then h.harvest else []
-words_at _ h = h.harvest
-
-abbrev pub word_at : LogPlace → SlotOf → Command → Held → ℕ
-word_at (Take begun) slot command h = word_read begun slot command h.topics
-word_at (Peek begun) slot command h = word_read begun slot command h.topics
-word_at _ slot command h = word_end slot command
-
--- ---- what it has read
-
--- Of the slot's log these words are read, up to this one, and taken out or not. A frame for which the line asks that must not be left out is read, or marked in
--- a word that is to come (`due`); each that is read has a cause (`caused`); and one that is taken out and marked again was written since (`recent`).
-pub record HasReadTo (log : ℕ → ℕ) (slot : SlotOf) (command : Command) (out : Bool) (words : List ℕ) (to : ℕ) (past : Past) : Type 0 where
-  pub due : (gfn : ℕ) → contains gfn slot ≡ true → asks_for command (gfn - slot.base) ≡ true → past.due gfn ≡ true
-      → IsRead slot command words gfn ⊎ ((is_marked log (page_of slot gfn) ≡ true) × (to ≤ page_of slot gfn / 64))
-  pub caused : (gfn : ℕ) → IsRead slot command words gfn → past.causes gfn ≡ true
-  pub recent : out ≡ true → (gfn : ℕ) → IsRead slot command words gfn → is_marked log (page_of slot gfn) ≡ true → past.recent gfn ≡ true
-
--- So it is of a reading that has begun to read, of its hand.
-abbrev pub ReadSoFar : Option Reading → Held → (ℕ → ℕ) → Past → Type 0
-ReadSoFar None h log past = Unit {0}
-ReadSoFar (Some r) h log past =
-    let slot : SlotOf = slot_asked h r.command in
-    has_begun r.place ≡ true → HasReadTo log slot r.command (clears r.place) (words_at r.place h) (word_at r.place slot r.command h) past
-
-abbrev pub ReadSoFarAt : Place → Command → Held → (ℕ → ℕ) → Past → Type 0
-ReadSoFarAt p command h log past = ReadSoFar (reading_at p command h) h log past
-
--- And so it is of the reading that each hand has under way.
-abbrev pub Readings : Sizes → View → Flat → Type 0
-Readings z v f =
-    (i : ℕ) → i < actors_of z → ReadSoFarAt (v.hand i).state.place (v.hand i).state.line.command (v.hand i) (v.words area.Log) f.past
 
 -- ---- the words and the slot
 

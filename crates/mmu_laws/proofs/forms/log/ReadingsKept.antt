@@ -48,7 +48,8 @@ use Rattle.mmu_laws.proofs.flat.LogsKept.{ReadyLogs}
 use Rattle.mmu_laws.proofs.flat.LogsStill.{bit_was}
 use Rattle.mmu_laws.proofs.flat.MildEvents.{AreMild, KeepsPast, access_mild, all_keep, answer_mild, begin_mild, host_mild, mild_append}
 use Rattle.mmu_laws.proofs.forms.log.OwnSteps.{own_read}
-use Rattle.mmu_laws.proofs.forms.log.Readings.{ReadSoFar, ReadSoFarAt, HasReadTo, Readings, clears, read_by, still_read, word_at, words_at}
+use Rattle.mmu_laws.specs.forms.log.ReadSoFar.{ReadSoFar, ReadSoFarAt, HasReadTo, Readings, clears, word_at, words_at}
+use Rattle.mmu_laws.proofs.forms.log.Readings.{read_by, still_read}
 use Rattle.mmu_laws.proofs.forms.log.ReadSlots.{ReadsOf, is_accepted, reading_manager, reads_of}
 use Rattle.mmu_core.proofs.forms.log.ReadingPlaces.{reading_is}
 use Rattle.mmu_core.specs.forms.log.Readings.{Reading, own_reading, reading_at}

@@ -44,15 +44,7 @@ use Rattle.mmu_core.proofs.forms.log.LogTold.{log_knows_reads}
 use Rattle.mmu_core.proofs.machine.Columns.{at_upd}
 use Rattle.mmu_core.proofs.machine.Stepping.{IsStep}
 use Rattle.log_invariant.proofs.StepPlaces.{of_hand}
-
--- The record has the slot's log, once the set with it is published.
-abbrev pub HasGiven : Command → Place → MemorySlots → Type 0
-HasGiven (SetLog id true) (place.SlotChange p) slots = slot_change_retires p ≡ true → is_logged id slots ≡ true
-HasGiven _ _ slots = Unit {0}
-
--- So it is of each hand's line.
-abbrev pub LogsGiven : Sizes → View → Type 0
-LogsGiven z v = (i : ℕ) → i < actors_of z → HasGiven (v.hand i).state.line.command (v.hand i).state.place (v.hand i).slots
+use Rattle.mmu_laws.specs.forms.slot_change.GivenLogs.{HasGiven, LogsGiven}
 
 -- ---- where a step leads
 
