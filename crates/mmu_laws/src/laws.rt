@@ -209,14 +209,14 @@ pub fn the_steps_can_be_made()
 /// one, and only by an actor that has the lock alone and an invalidation open; how many
 /// are open rises by one with such an actor's own one, and falls by one with it, once the
 /// number was raised (kvm_main.c, `kvm_mmu_invalidate_begin`, `kvm_mmu_invalidate_end`). A
-/// step that zaps is on the leaf to which links lead a guest frame of its actor's own open
-/// invalidation. One that changes a host word, whatever it leaves there, is of a page of its
-/// actor's own, while this actor's invalidation of the page is open and flushed. And one that
-/// brings a page in is in a section, of the page that its actor looked at and saw absent. A step
-/// that gives back the lock which its actor has alone leaves no end of an invalidation half done, so
-/// that number and count change in one holding, and none open that isn't flushed; and a line leaves
-/// nothing to do at the entry that it loaded last. (That its sweep or its reading is through, `armed`
-/// of `every_list_of_steps` says.) A step
+/// step that zaps is on the leaf, of whatever level, to which links lead a guest frame of its
+/// actor's own open invalidation. One that changes a host word, whatever it leaves there, is of a
+/// page of its actor's own, while this actor's invalidation of a run with the page is open and
+/// flushed. And one that brings a page in is in a section, of the page that its actor looked at
+/// and saw absent. A step that gives back the lock which its actor has alone leaves no end of an
+/// invalidation half done, so that number and count change in one holding, and none open that
+/// isn't flushed; and a line leaves nothing to do at the entry that it loaded last. (That its
+/// sweep or its reading is through, `armed` of `every_list_of_steps` says.) A step
 /// that forbids writes is on a leaf to which links lead a guest frame, and which allows them, and
 /// takes its Writable bit away; one that allows writes in a leaf of a slot with a dirty log leaves
 /// its actor owing a mark, which stays owed up to the mark, and no section ends before it; one
@@ -308,7 +308,7 @@ pub fn the_pool_is_enough()
 /// a level that has leaves too, at frames of the machine, and no other actor has anything cached
 /// (tdp_mmu.c, `tdp_mmu_map_handle_target_level`; mmu.rst, "Shadow pages"). Each guest
 /// frame that an open invalidation is of lies in the range of the open ones. It is of
-/// exactly the guest frames that the published slots give to its host page. Once its
+/// exactly the guest frames that the published slots give to its host pages. Once its
 /// actor has asked for a first flush, no links lead such a guest frame from the root to a
 /// leaf. And a virtual processor whose flush was awaited, and which is in the guest or
 /// has no flush asked of it, has nothing cached of such a guest frame. Both hold up to the
