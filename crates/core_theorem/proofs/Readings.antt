@@ -2,7 +2,7 @@
 use Rattle.core_views.specs.LogCommands.{reads_logs}
 use Rattle.core_views.specs.Traces.{IsCommandFor}
 use Rattle.core_views.specs.declared.trace.Command.{Command}
-use Rattle.core_views.specs.declared.trace.Command.TheVariants.{Access, ChangeHost, ChangeRun}
+use Rattle.core_views.specs.declared.trace.Command.TheVariants.{Access, ChangeHost, ChangeRun, Split}
 use Rattle.std.proofs.Common.{◌≡◌, ◌⊎◌, inl, inr, ℕ, List, [], ◌∷◌, ◌++◌, refl, sym, subst, ap, ◌∙◌, append_assoc}
 use Rattle.std.specs.Prelude.{Bool, false, true}
 use Rattle.core_views.specs.declared.actor.Actor.{Actor}
@@ -82,6 +82,8 @@ may_manage : (z : Sizes) (actor : Actor) (command : Command) → manages command
 may_manage z Manager command is may = refl
 may_manage z _ (Access gfn word op) is may = absurd (cc is)
 may_manage z _ (ChangeHost page change) is may = absurd (cc is)
+may_manage z _ (ChangeRun page change) is may = absurd (cc is)
+may_manage z _ (Split gfn) is may = absurd (cc is)
 may_manage z _ _ is may = absurd may
 
 manager : (z : Sizes) (a : ℕ) (line : Line) (actor : Actor) (w : World Held) (p : Place) → IsStep z (view z w) a line line.command p → line.actor ≡ actor
@@ -130,6 +132,7 @@ reads_manage : (command : Command) → manages command ≡ false → reads_logs 
 reads_manage (Access gfn word op) none = refl
 reads_manage (ChangeHost page change) none = refl
 reads_manage (ChangeRun page change) none = refl
+reads_manage (Split gfn) none = refl
 reads_manage _ none = absurd (cc none)
 
 reading_left : (actor : Actor) (kind : EventKind) → LeavesManaging Manager actor kind → LeavesReading Manager actor kind

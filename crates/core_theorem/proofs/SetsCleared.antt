@@ -24,7 +24,7 @@ use Rattle.core_views.specs.declared.place.EndPlace.TheVariants as ends
 use Rattle.core_views.specs.declared.sizes.Sizes.{Sizes}
 use Rattle.core_views.specs.declared.topics.Topics.{Topics}
 use Rattle.core_views.specs.declared.trace.Command.{Command}
-use Rattle.core_views.specs.declared.trace.Command.TheVariants.{Access, ChangeHost}
+use Rattle.core_views.specs.declared.trace.Command.TheVariants.{Access, ChangeHost, ChangeRun, Split}
 use Rattle.core_views.specs.declared.trace.Line.{Line}
 use Rattle.core_views.specs.declared.trace.Op.{Op}
 use Rattle.core_views.specs.declared.trace.Op.TheVariants.{Read}
@@ -177,11 +177,15 @@ own_cleared z v a line (Access gfn word op) (place.Access p) S after =
     not_cleared z v a line (Access gfn word op) (place.Access p) refl S after (upd_same v.hand a _)
 own_cleared z v a line (ChangeHost page change) (place.Host p) S after =
     not_cleared z v a line (ChangeHost page change) (place.Host p) refl S after (upd_same v.hand a _)
+own_cleared z v a line (ChangeRun page change) (place.HostRun p) S after =
+    not_cleared z v a line (ChangeRun page change) (place.HostRun p) refl S after (upd_same v.hand a _)
 own_cleared z v a line command (place.Log p) S after =
     let w : View = stepped a line command (place.Log p) v in
     let x : ℕ = answer_in (task_at (place.Log p) command (v.hand a)) v.words in
     subst (HeldCleared (w.words area.Role)) (sym (upd_same v.hand a _))
     (reads_cleared (w.words area.Role) (log_next p command (v.hand a) x) (log_reads p command (v.hand a) x) _)
+own_cleared z v a line (Split gfn) (place.Split p) S after =
+    not_cleared z v a line (Split gfn) (place.Split p) refl S after (upd_same v.hand a _)
 own_cleared z v a line _ _ S after = absurd S.holds
 
 -- ---- another actor's step

@@ -26,7 +26,7 @@ use Rattle.mmu_core.specs.machine.Machine.{Step, World}
 use Rattle.mmu_core.specs.machine.Worlds.{history}
 use Rattle.core_theorem.specs.Runs.{InEveryRun, IsRun}
 
--- Only the manager manages the guest: no other actor begins a line but accesses and changes of host pages.
+-- Only the manager manages the guest: no other actor begins a line but accesses, changes of host pages and splits.
 abbrev pub OnlyTheManagerManages : Type 0
 OnlyTheManagerManages = InEveryRun (λ z w ss. OnlyManages Manager (history w ss))
 

@@ -1,5 +1,5 @@
 -- How many steps the lines of a run make: by how often they are delayed.
-use Rattle.std.specs.Prelude.{◌+◌, ◌*◌, ◌<◌, ◌≤◌, ℕ, List, [], ◌∷◌, ◌++◌, length, Bool, true, false, not, ◌&&◌, ◌==◌, if◌then◌else◌, slice_get, unwrap_or}
+use Rattle.std.specs.Prelude.{◌+◌, ◌*◌, ◌^◌, ◌<◌, ◌≤◌, ℕ, List, [], ◌∷◌, ◌++◌, length, Bool, true, false, not, ◌&&◌, ◌==◌, if◌then◌else◌, slice_get, unwrap_or}
 use Rattle.core_views.specs.declared.kind.Kind.{Kind}
 use Rattle.core_views.specs.declared.place.Place.{Place}
 use Rattle.core_views.specs.declared.place.Place.TheVariants.{Between}
@@ -7,6 +7,7 @@ use Rattle.core_views.specs.declared.sizes.Sizes.{Sizes}
 use Rattle.core_views.specs.declared.trace.Line.{Line}
 use Rattle.core_views.specs.Flat.{no_line}
 use Rattle.core_views.specs.Held.{Held}
+use Rattle.core_views.specs.HostRuns.{sets_run}
 use Rattle.core_views.specs.Sizes.{actors_of}
 use Rattle.spte_words.specs.Areas.{words_of_bits}
 use Rattle.mmu_core.specs.lines.Bounds.{most_steps}
@@ -109,14 +110,36 @@ StepsAreFew =
     (z : Sizes) (lines : List Line) (w : World Held) (ss ts : List (Step Kind)) → IsRun z lines w (ss ++ ts)
     → how_many is_of_line (run mmu w ss) ts ≤ bounds_of delays_line z (run mmu w ss) ts + bounds_in z (run mmu w ss) ts
 
--- No line's command allows more than this. So in numbers of delays and of lines, of which there are no more than have no answer yet:
+-- No line's command allows more than this, but that of a line which changes a run of host pages, and this allows so many more.
 abbrev pub most_of_all : Sizes → ℕ
 most_of_all z = 8192 + z.pool + z.frames + 5 * z.pages + words_of_bits z.pages
 
+abbrev pub more_of_runs : ℕ
+more_of_runs = 2 * 262144 + 5 * 2 ^ 36
+
+-- The line that the hand's next step is of changes a run.
+abbrev pub changes_run : Held → Bool
+changes_run h = sets_run (line_of h).command
+
+-- The step is so, and one of such a line.
+abbrev pub in_runs : (World Held → Step Kind → Bool) → World Held → Step Kind → Bool
+in_runs is_so w s = is_so w s && changes_run (hand_in mmu w s.actor)
+
+-- the lines that some steps are of that change runs: those that begin in them, and those that are under way before
+abbrev pub runs_under_way : Sizes → World Held → ℕ
+runs_under_way z w = sum_below (actors_of z) (λ i. one_if (is_under_way (hand_in mmu w i).state.place && changes_run (hand_in mmu w i)))
+
+abbrev pub runs_in : Sizes → World Held → List (Step Kind) → ℕ
+runs_in z w ss = how_many (in_runs begins_line) w ss + runs_under_way z w
+
+-- So in numbers of delays and of lines, of which there are no more than have no answer yet: all lines together make at most the first number for each delay and
+-- each line, and the second one besides for each of lines that change runs.
 abbrev pub AllStepsAreFew : Type 0
 AllStepsAreFew =
     (z : Sizes) (lines : List Line) (w : World Held) (ss ts : List (Step Kind)) → IsRun z lines w (ss ++ ts)
-    → how_many is_of_line (run mmu w ss) ts ≤ most_of_all z * (how_many delays_line (run mmu w ss) ts + lines_in z (run mmu w ss) ts)
+    → how_many is_of_line (run mmu w ss) ts
+    ≤ most_of_all z * (how_many delays_line (run mmu w ss) ts + lines_in z (run mmu w ss) ts)
+    + more_of_runs * (how_many (in_runs delays_line) (run mmu w ss) ts + runs_in z (run mmu w ss) ts)
 
 -- What a hand has counted of its line's steps, since the line began or since its last delay, is no more than the line's command allows, after any
 -- run.

@@ -23,8 +23,9 @@ ghost use Rattle.core_theorem.specs.Turns.{AllStepsAreFew, CountsAreFew, LinesAr
 /// pool's map, and more where it sweeps; a host line 1,024 and one for each word of the map of frames)
 /// up to the end of its first delay, as many from there to the end of the next, and as many after its
 /// last. `turns`: so all lines together make at most as many for each of their delays and for each
-/// line. `all_turns`, `open_lines`: no line makes more than `most_of_all` says, and there are no more
-/// lines than have no answer yet.
+/// line. `all_turns`, `open_lines`: no line makes more than `most_of_all` says, and one that changes a
+/// run of host pages no more than `more_of_runs` besides; and there are no more lines than have no
+/// answer yet.
 pub fn every_run_progress()
     ensures begins_anew { FaultsHaveCauses }
     ensures waits { WaitsHaveCauses }

@@ -10,7 +10,7 @@ use Rattle.core_views.specs.Migrations.{is_migrating, or_barred}
 use Rattle.core_views.specs.declared.memory_slot.MemorySlot.{MemorySlot}
 use Rattle.core_views.specs.declared.trace.Command.{Command}
 use Rattle.core_views.specs.declared.actor.Actor.TheVariants.{Manager}
-use Rattle.core_views.specs.declared.trace.Command.TheVariants.{Access, ChangeHost, ChangeRun, ClearLog, GetLog, Migrate, SetLog, SetSlot}
+use Rattle.core_views.specs.declared.trace.Command.TheVariants.{Access, ChangeHost, ChangeRun, ClearLog, GetLog, Migrate, SetLog, SetSlot, Split}
 use Rattle.core_views.specs.declared.actor.Actor.{Actor}
 use Rattle.core_views.specs.declared.sizes.Sizes.{Sizes}
 use Rattle.core_views.specs.SlotCommands.{HasPages, after_change, at_once, change_at_once, change_refusal, changes_slot, is_unchanged}
@@ -31,6 +31,7 @@ changes z line (ChangeRun page change_) f change is = absurd (cc is)
 changes z line (GetLog id) f change is = absurd (cc is)
 changes z line (ClearLog id first count words) f change is = absurd (cc is)
 changes z line (Migrate call) f change is = absurd (cc is)
+changes z line (Split gfn) f change is = absurd (cc is)
 changes z line command f change is = ap (λ (c : Option (ℕ × Option MemorySlot)). changing line c (arming z line command)) is
 
 -- It is answered at once by the slots and the migration, whoever makes it.
@@ -42,6 +43,7 @@ answered_by_slots z slots migration actor (ChangeRun page change) is = absurd (c
 answered_by_slots z slots migration actor (GetLog id) is = absurd (cc is)
 answered_by_slots z slots migration actor (ClearLog id first count words) is = absurd (cc is)
 answered_by_slots z slots migration actor (Migrate call) is = absurd (cc is)
+answered_by_slots z slots migration actor (Split gfn) is = absurd (cc is)
 answered_by_slots z slots migration actor _ is = refl
 
 -- A line that has something to do isn't refused.
@@ -52,6 +54,7 @@ none_refused z (ChangeRun page change) slots works = refl
 none_refused z (GetLog id) slots works = refl
 none_refused z (ClearLog id first count words) slots works = refl
 none_refused z (Migrate call) slots works = refl
+none_refused z (Split gfn) slots works = refl
 none_refused z command slots works = by (change_refusal z command slots) works
   where
     by : (r : Option Refusal) → at_once r (is_unchanged command slots) ≡ None → r ≡ None

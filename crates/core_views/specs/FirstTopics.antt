@@ -3,6 +3,7 @@ use Rattle.std.specs.Prelude.{false, None}
 use Rattle.core_views.specs.declared.place.SlotField.TheVariants.{Flags}
 use Rattle.core_views.specs.declared.topics.Checked.TheVariants.{Nothing}
 use Rattle.core_views.specs.declared.topics.Hold.TheVariants.{Loose}
+use Rattle.core_views.specs.declared.topics.HostRow.{HostRow}
 use Rattle.core_views.specs.declared.topics.Invalidations.{Invalidations}
 use Rattle.core_views.specs.declared.topics.MapClaim.{MapClaim}
 use Rattle.core_views.specs.declared.topics.SlotSearch.{SlotSearch}
@@ -36,6 +37,9 @@ no_walk = record { level = 0; prefix = 0; root = 0; third = 0; second = 0; first
 abbrev pub no_claim : MapClaim
 no_claim = record { at = 0; seen = 0 }
 
+abbrev pub no_row : HostRow
+no_row = record { looked = 0; alike = false; start = 0; end = 0 }
+
 -- what an actor holds of each part of the machine before its first step
 abbrev pub first_topics : Topics
 first_topics = record {
@@ -49,6 +53,7 @@ first_topics = record {
   retired = None;
   watched = 0;
   host = None;
+  row = no_row;
   pause = 0;
   owed = None;
   flush = record { asked = 0; awaited = 0 };

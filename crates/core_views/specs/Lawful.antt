@@ -12,7 +12,7 @@ use Rattle.core_views.specs.declared.event.EventKind.TheVariants.{GuestStopped, 
 use Rattle.core_views.specs.declared.trace.MigrationCall.TheVariants.{Start, Finish, Resume}
 use Rattle.core_views.specs.Migrations.{is_stopped}
 use Rattle.core_views.specs.declared.trace.Command.{Command}
-use Rattle.core_views.specs.declared.trace.Command.TheVariants.{Access, ChangeHost, ChangeRun, DeleteSlot, Migrate, SetLog, SetSlot}
+use Rattle.core_views.specs.declared.trace.Command.TheVariants.{Access, ChangeHost, ChangeRun, DeleteSlot, Migrate, SetLog, SetSlot, Split}
 use Rattle.core_views.specs.declared.trace.HostChange.{HostChange}
 use Rattle.core_views.specs.declared.trace.HostChange.TheVariants.{Move}
 use Rattle.core_views.specs.declared.host.HostEntry.{HostEntry}
@@ -62,8 +62,8 @@ pub record MayChangeHost (z : Sizes) (f : Facts) (actor : Actor) (command : Comm
   pub changes : Changes z f.host page change entry
 
 -- The actor's line under way may be given up with this answer. That no pool page was free is no fact of flat memory, nor that no free frame was found for
--- a move. But a line that has nothing to do wants none, an access wants a pool page, for a table, only once it has seen its page, and a move a frame once it
--- has seen that its page is small.
+-- a move. But a line that has nothing to do wants none, a split aside, an access wants a pool page, for a table, only once it has seen its page, and a move a
+-- frame once it has seen that its page is small.
 abbrev pub MayLeave : Sizes → Facts → Actor → Command → Notes → Answer → Type 0
 MayLeave z f actor (Access gfn word op) notes Paused = notes.paused ≡ Some true
 MayLeave z f actor (Access gfn word op) notes Mmio = SawNoPage notes gfn op
@@ -76,6 +76,7 @@ MayLeave z f actor (ChangeHost page change) notes (Refused IsHuge) = HasWork z f
 MayLeave z f actor (ChangeRun page change) notes (Refused IsHuge) = HasWork z f actor (ChangeRun page change) × SawHugeOne notes page change
 MayLeave z f actor (ChangeRun page change) notes (Refused NotAligned) = HasWork z f actor (ChangeRun page change) × SawUnaligned notes page change
 MayLeave z f actor (ChangeHost page Move) notes (Refused NoFrame) = HasWork z f actor (ChangeHost page Move) × SawSmall notes page
+MayLeave z f actor (Split gfn) notes Starved = Unit {0}
 MayLeave _ _ _ _ _ _ = ⊥
 
 -- The line's own events tell this answer, or it has none, and is answered so at once.

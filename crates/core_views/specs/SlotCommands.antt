@@ -9,7 +9,7 @@ use Rattle.core_views.specs.declared.memory_slot.MemorySlot.{MemorySlot}
 use Rattle.core_views.specs.declared.sizes.Sizes.{Sizes}
 use Rattle.core_views.specs.declared.trace.Command.{Command}
 use Rattle.core_views.specs.declared.trace.Slot.{Slot}
-use Rattle.core_views.specs.declared.trace.Command.TheVariants.{Access, ChangeHost, ChangeRun, ClearLog, DeleteSlot, GetLog, Migrate, SetLog, SetSlot}
+use Rattle.core_views.specs.declared.trace.Command.TheVariants.{Access, ChangeHost, ChangeRun, ClearLog, DeleteSlot, GetLog, Migrate, SetLog, SetSlot, Split}
 use Rattle.core_views.specs.Refusals.{delete_refusal, is_logged, log_refusal, set_refusal}
 use Rattle.core_views.specs.Slots.{is_some_and, slot_with_id}
 use Rattle.core_views.specs.SlotSets.{MemorySlots, changed_slots, flat_slots, slot_of_id}
@@ -27,6 +27,7 @@ changes_slot (ChangeRun page change) = false
 changes_slot (GetLog id) = false
 changes_slot (ClearLog id first count words) = false
 changes_slot (Migrate call) = false
+changes_slot (Split gfn) = false
 changes_slot _ = true
 
 -- The ID of which a line changes the slot, and the slot after the change, or none where the line deletes it. A slot that is set has a dirty log where the
@@ -41,6 +42,7 @@ slot_change slots (SetLog id on) = Some (id, option_map (λ was. record { slot =
 slot_change slots (GetLog id) = None
 slot_change slots (ClearLog id first count words) = None
 slot_change slots (Migrate call) = None
+slot_change slots (Split gfn) = None
 
 -- the slots after such a change
 abbrev pub after_change : Option (ℕ × Option MemorySlot) → MemorySlots → MemorySlots
@@ -82,6 +84,7 @@ change_refusal z (SetLog id on) slots = log_refusal on id slots
 change_refusal z (GetLog id) slots = None
 change_refusal z (ClearLog id first count words) slots = None
 change_refusal z (Migrate call) slots = None
+change_refusal z (Split gfn) slots = None
 
 -- The slot that was there has the same first guest frame. Its number of pages, its host pages and its flag can't be others, else this one is refused.
 abbrev pub stays : Slot → Slot → Bool
@@ -104,6 +107,7 @@ change_at_once z (ChangeRun page change) slots = None
 change_at_once z (GetLog id) slots = None
 change_at_once z (ClearLog id first count words) slots = None
 change_at_once z (Migrate call) slots = None
+change_at_once z (Split gfn) slots = None
 change_at_once z command slots = at_once (change_refusal z command slots) (is_unchanged command slots)
 
 -- what such a line is answered

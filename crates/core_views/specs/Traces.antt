@@ -4,13 +4,15 @@ use Rattle.std.specs.List.Sorted.{IsStrictlyIncreasing}
 use Rattle.core_views.specs.declared.actor.Actor.{Actor}
 use Rattle.core_views.specs.declared.actor.Actor.TheVariants.{Vcpu, Host, Manager, Worker}
 use Rattle.core_views.specs.declared.trace.Command.{Command}
-use Rattle.core_views.specs.declared.trace.Command.TheVariants.{Access, ChangeHost, ClearLog, DeleteSlot, GetLog, SetLog, SetSlot}
+use Rattle.core_views.specs.declared.trace.Command.TheVariants.{Access, ChangeHost, ChangeRun, ClearLog, DeleteSlot, GetLog, SetLog, SetSlot, Split}
 use Rattle.core_views.specs.declared.trace.Header.{Header}
 use Rattle.core_views.specs.declared.trace.Item.{Item}
 use Rattle.core_views.specs.declared.trace.Line.{Line}
 use Rattle.core_views.specs.declared.trace.Op.{Op}
 use Rattle.core_views.specs.declared.trace.Op.TheVariants.{Add, Read, Write}
 use Rattle.core_views.specs.declared.trace.Slot.{Slot}
+use Rattle.core_views.specs.declared.trace.RunChange.{RunChange}
+use Rattle.core_views.specs.declared.trace.RunChange.TheVariants.{Huge, Small}
 use Rattle.core_views.specs.declared.trace.Trace.{Trace}
 use Rattle.core_views.specs.declared.trace.Until.{Until}
 use Rattle.core_views.specs.declared.trace.Until.TheVariants.{Turns, Answered, Made}
@@ -31,6 +33,11 @@ WritesOneWord Read = Unit {0}
 WritesOneWord (Write x) = x < 2 ^ 64
 WritesOneWord (Add x) = x < 2 ^ 64
 
+-- A run that is made large is one of a level above that of small pages.
+abbrev pub IsRunChange : RunChange → Type 0
+IsRunChange (Huge level) = (2 ≤ level) × (level ≤ 3)
+IsRunChange Small = Unit {0}
+
 -- The actor makes such lines, and the machine has it; the line's numbers are in their ranges.
 abbrev pub IsCommandFor : Sizes → Actor → Command → Type 0
 IsCommandFor z (Vcpu n) (Access gfn word op) = (n < z.vcpus) × (gfn < 2 ^ 36) × (word < z.words) × WritesOneWord op
@@ -40,6 +47,8 @@ IsCommandFor z Manager (SetLog id on) = Unit {0}
 IsCommandFor z Manager (GetLog id) = Unit {0}
 IsCommandFor z Manager (ClearLog id first count words) = (length words ≡ (count + 63) / 64) × All (λ word. word < 2 ^ 64) words
 IsCommandFor z (Host n) (ChangeHost page change) = n < z.hosts
+IsCommandFor z (Host n) (ChangeRun page change) = (n < z.hosts) × IsRunChange change
+IsCommandFor z (Worker n) (Split gfn) = (n < z.workers) × (gfn < 2 ^ 36)
 IsCommandFor z _ _ = ⊥
 
 -- The same of the machine of a header.

@@ -31,14 +31,15 @@ pub use migration::{Image, ImageWord, Migration};
 pub use no_memory::NoMemory;
 pub use place::{
     AccessPlace, BeginPlace, Cause, CheckStage, EndPlace, FaultEnd, FaultNext, FaultPlace,
-    FrameRange, HostPlace, Leaving, LogPlace, Place, SlotChangePlace, SlotField, WriteProtectPlace,
+    FrameRange, HostPlace, HostRunPlace, Leaving, LogPlace, Place, SlotChangePlace, SlotField,
+    SplitEnd, SplitPlace, WriteProtectPlace,
 };
 pub use progress::{Progress, Seen};
 pub use sequence::Sequence;
 pub use sizes::{LogMode, Sizes};
 pub use topics::{
-    Checked, Flush, Frames, Hold, HostLook, Invalidated, Invalidations, MapClaim, OwnedFrame,
-    OwnedPage, PageRun, SlotSearch, Stay, TableWalk, Topics,
+    Checked, Flush, Frames, Hold, HostLook, HostRow, Invalidated, Invalidations, MapClaim,
+    OwnedFrame, OwnedPage, PageRun, SlotSearch, Stay, TableWalk, Topics,
 };
 pub use trace::{
     Command, Header, HostChange, Item, Items, Line, Lines, MigrationCall, Op, RunChange, Slot,

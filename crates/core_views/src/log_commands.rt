@@ -38,7 +38,7 @@ impl Command {
             Command::Access { .. } | Command::ChangeHost { .. } => None,
             Command::ChangeRun { .. } => None,
             Command::SetSlot { .. } | Command::DeleteSlot { .. } | Command::SetLog { .. } => None,
-            Command::Migrate { .. } => None,
+            Command::Migrate { .. } | Command::Split { .. } => None,
         }
     }
 

@@ -99,7 +99,7 @@ impl Command {
             Command::SetSlot { .. } | Command::DeleteSlot { .. } | Command::SetLog { .. } => true,
             Command::GetLog { .. } | Command::ClearLog { .. } => true,
             Command::Migrate { call } => *call == MigrationCall::Start,
-            Command::Access { .. } => false,
+            Command::Access { .. } | Command::Split { .. } => false,
             Command::ChangeHost { .. } | Command::ChangeRun { .. } => false,
         }
     }

@@ -6,7 +6,9 @@ pub enum Place {
     Access(AccessPlace),
     SlotChange(SlotChangePlace),
     Host(HostPlace),
+    HostRun(HostRunPlace),
     Log(LogPlace),
+    Split(SplitPlace),
 }
 
 /// A word of a slot in its slot set.
@@ -206,6 +208,24 @@ pub enum HostPlace {
     Free,
 }
 
+/// The steps of a line that maps a run of host pages as one large page, or its pages by
+/// themselves, in their order (mmu.rst, "Large pages"): it looks at each page of the run, and
+/// changes each within an invalidation of the guest frames that slots give to them.
+#[derive(Clone, Copy, Drop)]
+pub enum HostRunPlace {
+    /// Loads the host word of the page that the line names; where the run isn't the actor's own,
+    /// the line is refused with this step.
+    Look,
+    /// Loads the host word of the next page of the run; the line may be refused with it.
+    LookOn,
+    /// A step that begins its invalidation.
+    Begin(BeginPlace),
+    /// Exchanges the host word of the next page of the run.
+    Change,
+    /// A step that ends its invalidation.
+    End(EndPlace),
+}
+
 /// The steps of a line that reads a slot's dirty log, in their order (kvm_main.c,
 /// `kvm_get_dirty_log_protect` and `kvm_clear_dirty_log_protect`). Where it takes out what it
 /// reads, it does so under the lock alone, and forbids writes to each page that it took; then
@@ -345,6 +365,46 @@ pub enum FaultPlace {
     Unshare(FaultEnd),
     /// Ends the section.
     End(FaultEnd),
+}
+
+/// What a line that splits a large leaf ends with.
+#[derive(Clone, Copy, Drop)]
+pub enum SplitEnd {
+    /// A table stands in place of the leaf: this line has put it there.
+    Split,
+    /// There was no large leaf: the walk ended at this entry, absent or a leaf of level 1.
+    Nothing(u64),
+    /// The entry isn't the leaf that was read: this was found there.
+    Changed(u64),
+    /// No pool page was free for the table.
+    Starved,
+}
+
+/// The steps of a line that splits the large leaf over a guest frame, in their order (tdp_mmu.c,
+/// `tdp_mmu_split_huge_page`): under the shared lock a page of its own is filled with the leaf's
+/// children, and linked as a table in its place.
+#[derive(Clone, Copy, Drop)]
+pub enum SplitPlace {
+    /// Begins a section.
+    Begin,
+    /// Tries to share the lock, or takes itself out of its readers again.
+    Share,
+    /// Loads the root, or, once rooted, the entry in the table that the walk has come to.
+    Walk { rooted: bool },
+    /// Loads a word of the pool's map, or tries a page that it saw there.
+    Claim { begun: bool },
+    /// Stores the next child in the page that it owns.
+    Fill,
+    /// Stores its role, once all children are stored.
+    Role,
+    /// Links the page as a table, in place of the leaf.
+    Link,
+    /// Gives the page back, where another entry stands.
+    Give(SplitEnd),
+    /// Gives the lock back.
+    Unshare(SplitEnd),
+    /// Ends the section.
+    End(SplitEnd),
 }
 
 /// Where a fault stands after a step.

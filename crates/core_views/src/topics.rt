@@ -52,6 +52,21 @@ pub struct HostLook {
     pub word: u64,
 }
 
+/// What was seen of host pages in a row, from the one that was looked at on, which are to be
+/// mapped as one (mmu.rst, "Large pages").
+#[derive(Clone, Copy, PartialEq, Eq, Drop)]
+pub struct HostRow {
+    /// How many pages were looked at, the first one among them.
+    pub looked: u64,
+    /// Whether these are one after the other, present, and each mapped as far after the first as
+    /// it stands after it, and alike in all else.
+    pub alike: bool,
+    /// The first guest frame that slots give to the pages of the run, by the search so far.
+    pub start: u64,
+    /// The guest frame after the last of these; 0 where there are none.
+    pub end: u64,
+}
+
 /// Which words of the invalidations were loaded under the lock, in the order of
 /// the check.
 #[derive(Clone, Copy, PartialEq, Eq, Drop)]
@@ -75,10 +90,14 @@ pub enum Checked {
 /// span of the level.
 #[derive(Clone, Copy, PartialEq, Eq, Drop)]
 pub struct PageRun {
-    /// The first page.
+    /// The page of the run that was looked at.
     pub first: u64,
     /// The level: 1 where it is one page.
     pub level: u8,
+    /// The host word of this page as it was seen, where the run has more than one.
+    pub word: u64,
+    /// How many of its pages are changed, in their order.
+    pub changed: u64,
 }
 
 /// What an invalidation is of: the guest frames that slots give to host pages, or those of
@@ -219,6 +238,8 @@ pub struct Topics {
     pub watched: u64,
     /// The host word that was loaded last in this look-up.
     pub host: Option<HostLook>,
+    /// What was seen of the pages in a row with it.
+    pub row: HostRow,
     /// The pause word that was loaded last.
     pub pause: u64,
     /// The guest frame for which a mark in the dirty log is owed: its leaf was made writable in this
@@ -286,6 +307,12 @@ impl Topics {
             retired: None,
             watched: 0,
             host: None,
+            row: HostRow {
+                looked: 0,
+                alike: false,
+                start: 0,
+                end: 0,
+            },
             pause: 0,
             owed: None,
             flush: Flush {

@@ -164,6 +164,11 @@ pub enum Command {
     Migrate {
         call: MigrationCall,
     },
+    /// Splits the large leaf over guest frame `gfn`, if one stands there, into a table of leaves
+    /// one level down.
+    Split {
+        gfn: u64,
+    },
 }
 
 // By hand: in the derived one each number has a `?` of its own, which takes long to prove.
@@ -204,6 +209,7 @@ impl Clone for Command {
                 words: words.clone()?,
             },
             Command::Migrate { call } => Command::Migrate { call: *call },
+            Command::Split { gfn } => Command::Split { gfn: *gfn },
         })
     }
 }

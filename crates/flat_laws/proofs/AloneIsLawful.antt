@@ -8,7 +8,7 @@ use Rattle.core_views.specs.declared.event.EventKind.{EventKind}
 use Rattle.core_views.specs.declared.event.EventKind.TheVariants.{Begun, LookedAtPause, LookedAtSlots, LookedAtHost, BroughtIn, Accessed, Exited, SlotChanged}
 use Rattle.core_views.specs.declared.event.EventKind.TheVariants.{Armed}
 use Rattle.core_views.specs.declared.trace.Command.{Command}
-use Rattle.core_views.specs.declared.trace.Command.TheVariants.{Access, ChangeHost, ChangeRun, ClearLog, GetLog, Migrate, SetLog}
+use Rattle.core_views.specs.declared.trace.Command.TheVariants.{Access, ChangeHost, ChangeRun, ClearLog, GetLog, Migrate, SetLog, Split}
 use Rattle.core_views.specs.declared.sizes.Sizes.{Sizes}
 use Rattle.core_views.specs.declared.trace.Line.{Line}
 use Rattle.core_views.specs.declared.trace.Op.{Op}
@@ -201,6 +201,7 @@ doing_closes z line (GetLog id) facts f is caused at =
 doing_closes z line (ClearLog id first count words) facts f is caused at =
     read_or_answer z line (ClearLog id first count words) id facts f is refl refl (caused_at facts f at.facts_are caused) at
 doing_closes z line (Migrate call) facts f is caused at = migrates_or_answers z line call facts f is caused at
+doing_closes z line (Split gfn) facts f is caused at = answered z line Done facts _ f at refl (rw is refl)
 doing_closes z line command facts f is caused at = change_or_answer z line command facts f _ refl is at
 
 -- What the state keeps of writes is kept along the way.

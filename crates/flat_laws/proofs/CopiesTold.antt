@@ -11,7 +11,7 @@ use Rattle.core_views.specs.declared.host.HostEntry.{HostEntry}
 use Rattle.core_views.specs.declared.migration.Migration.{Migration}
 use Rattle.core_views.specs.declared.sizes.Sizes.{Sizes}
 use Rattle.core_views.specs.declared.trace.Command.{Command}
-use Rattle.core_views.specs.declared.trace.Command.TheVariants.{Access, ChangeHost, ChangeRun, ClearLog, DeleteSlot, GetLog, Migrate, SetLog, SetSlot}
+use Rattle.core_views.specs.declared.trace.Command.TheVariants.{Access, ChangeHost, ChangeRun, ClearLog, DeleteSlot, GetLog, Migrate, SetLog, SetSlot, Split}
 use Rattle.core_views.specs.declared.trace.HostChange.TheVariants.{Move}
 use Rattle.core_views.specs.declared.trace.MigrationCall.{MigrationCall}
 use Rattle.core_views.specs.declared.trace.MigrationCall.TheVariants.{Start, Round, Finish, Resume}
@@ -70,6 +70,7 @@ unbarred_none z slots migration actor (GetLog id) = refused_none (has_no_slot sl
 unbarred_none z slots migration actor (ClearLog id first count words) = refused_none (has_no_slot slots) (read_refusal (ClearLog id first count words) slots)
 unbarred_none z slots migration actor (Migrate call) = called_none slots migration call
 unbarred_none z slots migration actor (Access gfn word op) = tt
+unbarred_none z slots migration actor (Split gfn) = λ copies. absurd (cc copies)
 unbarred_none z slots migration actor (SetSlot id slot) = changed_none (has_no_slot slots) (change_at_once z (SetSlot id slot) slots)
 unbarred_none z slots migration actor (DeleteSlot id) = changed_none (has_no_slot slots) (change_at_once z (DeleteSlot id) slots)
 unbarred_none z slots migration actor (SetLog id on) = changed_none (has_no_slot slots) (change_at_once z (SetLog id on) slots)

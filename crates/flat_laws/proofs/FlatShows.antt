@@ -5,7 +5,7 @@ use Rattle.core_views.specs.declared.event.Event.{Event}
 use Rattle.core_views.specs.declared.event.EventKind.TheVariants.{Begun, LookedAtHost, SlotChanged, Taken}
 use Rattle.core_views.specs.declared.answer.Answer.{Answer}
 use Rattle.core_views.specs.declared.trace.Command.{Command}
-use Rattle.core_views.specs.declared.trace.Command.TheVariants.{Access, ChangeHost, ChangeRun, ClearLog, GetLog, Migrate, SetLog}
+use Rattle.core_views.specs.declared.trace.Command.TheVariants.{Access, ChangeHost, ChangeRun, ClearLog, GetLog, Migrate, SetLog, Split}
 use Rattle.core_views.specs.declared.trace.HostChange.{HostChange}
 use Rattle.core_views.specs.declared.trace.HostChange.TheVariants.{Move, Evict, Protect, Allow}
 use Rattle.core_views.specs.declared.trace.Line.{Line}
@@ -116,6 +116,7 @@ doing_shows z line (GetLog id) f = read_shows z line (GetLog id) id f (answer_at
 doing_shows z line (ClearLog id first count words) f =
     read_shows z line (ClearLog id first count words) id f (answer_at_once z f.slots f.migration line.actor (ClearLog id first count words)) refl
 doing_shows z line (Migrate call) f = migration_shows z line call f (answer_at_once z f.slots f.migration line.actor (Migrate call))
+doing_shows z line (Split gfn) f = refl
 doing_shows z line command f = change_shows z line command f _ (answer_at_once z f.slots f.migration line.actor command) refl
 
 alone_shows : (z : Sizes) (line : Line) (f : Facts) → without_looks (alone z line f) ≡ by line (Begun line) ∷ rest_of z line Fresh f

@@ -9,7 +9,7 @@ use Rattle.core_views.specs.declared.event.EventKind.TheVariants.{GuestStopped, 
 use Rattle.core_views.specs.declared.sizes.Sizes.{Sizes}
 use Rattle.core_views.specs.declared.memory_slot.MemorySlot.{MemorySlot}
 use Rattle.core_views.specs.declared.trace.Command.{Command}
-use Rattle.core_views.specs.declared.trace.Command.TheVariants.{Access, ChangeHost, ChangeRun, Migrate}
+use Rattle.core_views.specs.declared.trace.Command.TheVariants.{Access, ChangeHost, ChangeRun, Migrate, Split}
 use Rattle.core_views.specs.declared.trace.MigrationCall.TheVariants.{Start, Finish, Resume}
 use Rattle.core_views.specs.Events.{under_after}
 use Rattle.core_views.specs.Flat.{Facts, Idle, Fresh, HasAccessed, HasChanged, HasChangedHost, HasToSet, HasLeft, HasSetPause, HasTaken, HasTakenNext, HasToCopy}
@@ -59,12 +59,14 @@ changes_none : (slots : MemorySlots) (command : Command) (id : ℕ) (slot : Opti
 changes_none slots (Access gfn word op) id slot none is = cc is
 changes_none slots (ChangeHost page change) id slot none is = cc is
 changes_none slots (ChangeRun page change) id slot none is = cc is
+changes_none slots (Split gfn) id slot none is = cc is
 changes_none slots _ id slot none is = cc none
 
 reads_none : (command : Command) (id : ℕ) → manages command ≡ false → log_read command ≡ Some id → ⊥
 reads_none (Access gfn word op) id none is = cc is
 reads_none (ChangeHost page change) id none is = cc is
 reads_none (ChangeRun page change) id none is = cc is
+reads_none (Split gfn) id none is = cc is
 reads_none _ id none is = cc none
 
 pub guests_tell : (z : Sizes) (f : Facts) (past : Past) (a : Actor) (v : LineUnderWay) (kind : EventKind) → IsAllowed z f past a v kind → IsGuests v

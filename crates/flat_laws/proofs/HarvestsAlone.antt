@@ -10,7 +10,7 @@ use Rattle.core_views.specs.declared.answer.Refusal.TheVariants.{Missing}
 use Rattle.core_views.specs.declared.sizes.Sizes.{Sizes}
 use Rattle.core_views.specs.declared.memory_slot.MemorySlot.{MemorySlot}
 use Rattle.core_views.specs.declared.trace.Command.{Command}
-use Rattle.core_views.specs.declared.trace.Command.TheVariants.{Access, ChangeHost, ChangeRun, ClearLog, DeleteSlot, GetLog, Migrate, SetLog, SetSlot}
+use Rattle.core_views.specs.declared.trace.Command.TheVariants.{Access, ChangeHost, ChangeRun, ClearLog, DeleteSlot, GetLog, Migrate, SetLog, SetSlot, Split}
 use Rattle.core_views.specs.Flat.{Facts}
 use Rattle.core_views.specs.Harvests.{IsHarvest}
 use Rattle.core_views.specs.Lawful.{HasWork}
@@ -56,6 +56,7 @@ reads_there z f actor (SetSlot i slot) id reads works = absurd (cc reads)
 reads_there z f actor (DeleteSlot i) id reads works = absurd (cc reads)
 reads_there z f actor (SetLog i on) id reads works = absurd (cc reads)
 reads_there z f actor (Migrate call) id reads works = absurd (cc reads)
+reads_there z f actor (Split gfn) id reads works = absurd (cc reads)
 
 -- All dirty frames for which it asks are such as it may read, if each has a cause and none was overlooked.
 pub reads_dirty : (f : Facts) (past : Past) (command : Command) (id : ℕ) (slot : MemorySlot) → slot_of_id id f.slots ≡ Some slot

@@ -12,7 +12,7 @@ use Rattle.core_views.specs.declared.migration.ImageWord.{ImageWord}
 use Rattle.core_views.specs.declared.migration.Migration.{Migration}
 use Rattle.core_views.specs.declared.sizes.Sizes.{Sizes}
 use Rattle.core_views.specs.declared.trace.Command.{Command}
-use Rattle.core_views.specs.declared.trace.Command.TheVariants.{Access, ChangeHost, ChangeRun, ClearLog, DeleteSlot, GetLog, Migrate, SetLog, SetSlot}
+use Rattle.core_views.specs.declared.trace.Command.TheVariants.{Access, ChangeHost, ChangeRun, ClearLog, DeleteSlot, GetLog, Migrate, SetLog, SetSlot, Split}
 use Rattle.core_views.specs.declared.trace.HostChange.TheVariants.{Move}
 use Rattle.core_views.specs.declared.trace.MigrationCall.{MigrationCall}
 use Rattle.core_views.specs.declared.trace.MigrationCall.TheVariants.{Start, Round, Finish, Resume}
@@ -44,6 +44,7 @@ none_left z f actor (SetLog id on) notes (Image words) may = absurd may
 none_left z f actor (GetLog id) notes (Image words) may = absurd may
 none_left z f actor (ClearLog id first count given) notes (Image words) may = absurd may
 none_left z f actor (Migrate call) notes (Image words) may = absurd may
+none_left z f actor (Split gfn) notes (Image words) may = absurd may
 none_left z f actor (Access gfn word op) notes (Copied pages) may = absurd may
 none_left z f actor (ChangeHost page Move) notes (Copied pages) may = absurd may
 none_left z f actor (ChangeHost page change) notes (Copied pages) may = absurd may
@@ -54,6 +55,7 @@ none_left z f actor (SetLog id on) notes (Copied pages) may = absurd may
 none_left z f actor (GetLog id) notes (Copied pages) may = absurd may
 none_left z f actor (ClearLog id first count given) notes (Copied pages) may = absurd may
 none_left z f actor (Migrate call) notes (Copied pages) may = absurd may
+none_left z f actor (Split gfn) notes (Copied pages) may = absurd may
 none_left z f actor command notes _ may = refl
 
 pub no_image : (answer : Answer) → tells_copies answer ≡ false → is_image answer ≡ false
@@ -105,6 +107,7 @@ none_unbarred z slots migration actor (GetLog id) = none_refused (read_refusal (
 none_unbarred z slots migration actor (ClearLog id first count words) = none_refused (read_refusal (ClearLog id first count words) slots)
 none_unbarred z slots migration actor (Migrate call) = none_called slots migration call
 none_unbarred z slots migration actor (Access gfn word op) = tt
+none_unbarred z slots migration actor (Split gfn) = refl
 none_unbarred z slots migration actor (SetSlot id slot) = none_changed (change_at_once z (SetSlot id slot) slots)
 none_unbarred z slots migration actor (DeleteSlot id) = none_changed (change_at_once z (DeleteSlot id) slots)
 none_unbarred z slots migration actor (SetLog id on) = none_changed (change_at_once z (SetLog id on) slots)

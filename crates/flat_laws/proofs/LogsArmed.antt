@@ -14,7 +14,7 @@ use Rattle.core_views.specs.declared.event.EventKind.TheVariants.{HostChanged, L
 use Rattle.core_views.specs.declared.sizes.Sizes.{Sizes}
 use Rattle.core_views.specs.declared.memory_slot.MemorySlot.{MemorySlot}
 use Rattle.core_views.specs.declared.trace.Command.{Command}
-use Rattle.core_views.specs.declared.trace.Command.TheVariants.{Access, ChangeHost, ChangeRun, ClearLog, DeleteSlot, GetLog, Migrate, SetLog, SetSlot}
+use Rattle.core_views.specs.declared.trace.Command.TheVariants.{Access, ChangeHost, ChangeRun, ClearLog, DeleteSlot, GetLog, Migrate, SetLog, SetSlot, Split}
 use Rattle.core_views.specs.Events.{facts_after, is_armed, under_after}
 use Rattle.core_views.specs.HostRuns.{level_set}
 use Rattle.core_views.specs.Flat.{Facts, HasArmed, HasChanged, HasSetPause, HasTaken, HasTakenNext, HasToCopy, HasToSet, Fresh, Idle, LineUnderWay, Stage}
@@ -106,6 +106,7 @@ new_log z f actor (ChangeRun page change) id slot new_ works is here logged = ab
 new_log z f actor (GetLog i) id slot new_ works is here logged = absurd (cc is)
 new_log z f actor (ClearLog i first count words) id slot new_ works is here logged = absurd (cc is)
 new_log z f actor (Migrate call) id slot new_ works is here logged = absurd (cc is)
+new_log z f actor (Split gfn) id slot new_ works is here logged = absurd (cc is)
 new_log z f actor (DeleteSlot i) id slot new_ works is here logged =
     let pair : ◌≡◌ {A = ℕ × Option MemorySlot} (i, None) (id, slot) = same_Some (i, None) (id, slot) is in
     let none : ◌≡◌ {A = Option MemorySlot} None slot = ap (λ (p : ℕ × Option MemorySlot). p.1) pair in absurd (cc (none, here))

@@ -14,7 +14,7 @@ use Rattle.core_views.specs.declared.migration.Migration.TheVariants.{Unstarted,
 use Rattle.core_views.specs.declared.sizes.Sizes.{Sizes}
 use Rattle.core_views.specs.declared.memory_slot.MemorySlot.{MemorySlot}
 use Rattle.core_views.specs.declared.trace.Command.{Command}
-use Rattle.core_views.specs.declared.trace.Command.TheVariants.{Access, ChangeHost, ChangeRun, ClearLog, GetLog, Migrate}
+use Rattle.core_views.specs.declared.trace.Command.TheVariants.{Access, ChangeHost, ChangeRun, ClearLog, GetLog, Migrate, Split}
 use Rattle.core_views.specs.declared.trace.MigrationCall.TheVariants.{Finish, Start}
 use Rattle.core_views.specs.declared.trace.Op.{Op}
 use Rattle.core_views.specs.Events.{facts_after, past_after, under_after}
@@ -67,6 +67,7 @@ changes_barred slots (ChangeRun page host) change is = absurd (cc is)
 changes_barred slots (GetLog id) change is = absurd (cc is)
 changes_barred slots (ClearLog id first count words) change is = absurd (cc is)
 changes_barred slots (Migrate call) change is = absurd (cc is)
+changes_barred slots (Split gfn) change is = absurd (cc is)
 changes_barred slots _ change is = refl
 
 none_migrates : (z : Sizes) (f : Facts) (actor : Actor) (command : Command) (change : ℕ × Option MemorySlot) → HasWork z f actor command

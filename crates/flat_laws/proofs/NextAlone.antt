@@ -9,7 +9,7 @@ use Rattle.core_views.specs.declared.host.HostEntry.{HostEntry}
 use Rattle.core_views.specs.declared.event.Event.{Event}
 use Rattle.core_views.specs.declared.event.EventKind.TheVariants.{Accessed, BroughtIn, Exited, HostChanged, SlotChanged, Armed, Taken, Harvested, Shown}
 use Rattle.core_views.specs.declared.trace.Command.{Command}
-use Rattle.core_views.specs.declared.trace.Command.TheVariants.{Access, ChangeHost, ChangeRun, ClearLog, DeleteSlot, GetLog, Migrate, SetLog, SetSlot}
+use Rattle.core_views.specs.declared.trace.Command.TheVariants.{Access, ChangeHost, ChangeRun, ClearLog, DeleteSlot, GetLog, Migrate, SetLog, SetSlot, Split}
 use Rattle.core_views.specs.declared.trace.HostChange.{HostChange}
 use Rattle.core_views.specs.declared.trace.HostChange.TheVariants.{Move, Evict, Protect, Allow}
 use Rattle.core_views.specs.declared.trace.Line.{Line}
@@ -175,6 +175,7 @@ taken z line (SetSlot i slot) f id works is = absurd (cc is)
 taken z line (DeleteSlot i) f id works is = absurd (cc is)
 taken z line (SetLog i on) f id works is = absurd (cc is)
 taken z line (Migrate call) f id works is = absurd (cc is)
+taken z line (Split gfn) f id works is = absurd (cc is)
 
 pub taking_is_next : (z : Sizes) (f : Facts) (past : Past) (u : LineUnderWay) (id : ℕ) → IsAllowed z f past u.line.actor u (Taken id)
     → IsNext z f u (Taken id)

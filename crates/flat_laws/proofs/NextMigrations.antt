@@ -7,7 +7,7 @@ use Rattle.core_views.specs.declared.event.Event.{Event}
 use Rattle.core_views.specs.declared.event.EventKind.TheVariants.{Taken, GuestStopped, MigrationStarted, PauseSet, Resumed, WordCopied}
 use Rattle.core_views.specs.declared.sizes.Sizes.{Sizes}
 use Rattle.core_views.specs.declared.trace.Command.{Command}
-use Rattle.core_views.specs.declared.trace.Command.TheVariants.{Access, ChangeHost, ChangeRun, ClearLog, DeleteSlot, GetLog, Migrate, SetLog, SetSlot}
+use Rattle.core_views.specs.declared.trace.Command.TheVariants.{Access, ChangeHost, ChangeRun, ClearLog, DeleteSlot, GetLog, Migrate, SetLog, SetSlot, Split}
 use Rattle.core_views.specs.declared.trace.Line.{Line}
 use Rattle.core_views.specs.declared.trace.MigrationCall.TheVariants.{Start, Round, Finish, Resume}
 use Rattle.core_views.specs.Past.{Past}
@@ -43,6 +43,7 @@ first_next z line (DeleteSlot i) f id ids is works left = absurd (cc left)
 first_next z line (SetLog i on) f id ids is works left = absurd (cc left)
 first_next z line (GetLog i) f id ids is works left = absurd (cc left)
 first_next z line (ClearLog i first count words) f id ids is works left = absurd (cc left)
+first_next z line (Split gfn) f id ids is works left = absurd (cc left)
 
 pub left_next : (z : Sizes) (line : Line) (command : Command) (stage : Stage) (f : Facts) (id : ℕ) (ids : List ℕ) → line.command ≡ command
     → (stage ≡ Fresh → HasWork z f line.actor line.command) → logs_left f.slots line.command stage ≡ id ∷ ids

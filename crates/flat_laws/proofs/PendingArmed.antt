@@ -12,7 +12,7 @@ use Rattle.core_views.specs.declared.answer.Refusal.{Refusal}
 use Rattle.core_views.specs.declared.sizes.Sizes.{Sizes}
 use Rattle.core_views.specs.declared.memory_slot.MemorySlot.{MemorySlot}
 use Rattle.core_views.specs.declared.trace.Command.{Command}
-use Rattle.core_views.specs.declared.trace.Command.TheVariants.{Access, ChangeHost, ChangeRun, ClearLog, DeleteSlot, GetLog, Migrate, SetLog, SetSlot}
+use Rattle.core_views.specs.declared.trace.Command.TheVariants.{Access, ChangeHost, ChangeRun, ClearLog, DeleteSlot, GetLog, Migrate, SetLog, SetSlot, Split}
 use Rattle.core_views.specs.declared.trace.Op.{Op}
 use Rattle.core_views.specs.Slots.{contains, is_some_and, is_write}
 use Rattle.core_views.specs.SlotCommands.{at_once, is_unchanged, refused_or_done, slot_change}
@@ -74,6 +74,7 @@ fits z f actor (ChangeRun page change) id slot apart works is = absurd (cc is)
 fits z f actor (GetLog i) id slot apart works is = absurd (cc is)
 fits z f actor (ClearLog i first count words) id slot apart works is = absurd (cc is)
 fits z f actor (Migrate call) id slot apart works is = absurd (cc is)
+fits z f actor (Split gfn) id slot apart works is = absurd (cc is)
 fits z f actor (DeleteSlot i) id slot apart works is =
     subst (λ (o : Option MemorySlot). FitsAt id o f.slots) (ap (λ (change : ℕ × Option MemorySlot). change.1) (same_Some (i, None) (id, slot) is))
     (λ gfn j n ne at has here. absurd (cc here))

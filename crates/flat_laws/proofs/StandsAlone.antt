@@ -9,7 +9,7 @@ use Rattle.core_views.specs.declared.event.EventKind.{EventKind}
 use Rattle.core_views.specs.declared.event.EventKind.TheVariants.{Begun, LookedAtPause, LookedAtSlots, LookedAtHost, BroughtIn, Accessed, Exited, SlotChanged}
 use Rattle.core_views.specs.declared.event.EventKind.TheVariants.{HostChanged, Armed, Taken, Harvested, Shown, Answered}
 use Rattle.core_views.specs.declared.trace.Command.{Command}
-use Rattle.core_views.specs.declared.trace.Command.TheVariants.{Access, ChangeHost, ChangeRun, ClearLog, GetLog, Migrate, SetLog}
+use Rattle.core_views.specs.declared.trace.Command.TheVariants.{Access, ChangeHost, ChangeRun, ClearLog, GetLog, Migrate, SetLog, Split}
 use Rattle.core_views.specs.declared.trace.HostChange.{HostChange}
 use Rattle.core_views.specs.declared.trace.HostChange.TheVariants.{Move, Evict, Protect, Allow}
 use Rattle.core_views.specs.declared.trace.Line.{Line}
@@ -198,6 +198,7 @@ doing_closed z line (GetLog id) f = read_closed z line (GetLog id) id f (answer_
 doing_closed z line (ClearLog id first count words) f =
     read_closed z line (ClearLog id first count words) id f (answer_at_once z f.slots f.migration line.actor (ClearLog id first count words)) refl
 doing_closed z line (Migrate call) f = migration_closed z line call f (answer_at_once z f.slots f.migration line.actor (Migrate call))
+doing_closed z line (Split gfn) f = record { within = []; answer = Done; are_within = tt; events_are = refl }
 doing_closed z line command f = change_closed z line command f _ (answer_at_once z f.slots f.migration line.actor command) refl
 
 alone_first : (z : Sizes) (line : Line) (f : Facts) (rest : List Event) → StandsFirst line (alone z line f ++ rest) rest

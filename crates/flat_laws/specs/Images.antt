@@ -9,7 +9,7 @@ use Rattle.core_views.specs.declared.migration.ImageWord.{ImageWord}
 use Rattle.core_views.specs.declared.sizes.Sizes.{Sizes}
 use Rattle.core_views.specs.declared.memory_slot.MemorySlot.{MemorySlot}
 use Rattle.core_views.specs.declared.trace.Command.{Command}
-use Rattle.core_views.specs.declared.trace.Command.TheVariants.{Access, ChangeHost, ChangeRun}
+use Rattle.core_views.specs.declared.trace.Command.TheVariants.{Access, ChangeHost, ChangeRun, Split}
 use Rattle.core_views.specs.declared.trace.Op.TheVariants.{Read}
 use Rattle.core_views.specs.Events.{after_all}
 use Rattle.core_views.specs.Flat.{Facts, first_flat}
@@ -32,11 +32,12 @@ AreImaged z f =
     (page gfn word : ℕ) → page_behind (flat_slots f.slots) gfn Read ≡ Some page → word < z.words
     → (f.image page word ≡ f.memory page word) ⊎ (HasFrameIn f.slots f.pending page ⊎ HasFrameIn f.slots f.to_copy page)
 
--- The command manages the guest: it is neither an access nor a change of a host page.
+-- The command manages the guest: it is neither an access, nor a change of a host page, nor a split of a leaf.
 abbrev pub manages : Command → Bool
 manages (Access gfn word op) = false
 manages (ChangeHost page change) = false
 manages (ChangeRun page change) = false
+manages (Split gfn) = false
 manages _ = true
 
 -- The event begins no such line, but for the migrator; and so do none of the events.

@@ -1,19 +1,19 @@
--- A line that a migration bars is refused; the events of any other one.
+-- A line that a migration bars is refused; the events of any other one. A split is done.
 use Rattle.std.proofs.Common.{◌≡◌, ◌&&◌, ◌++◌, ◌∷◌, [], ℕ, List, Bool, true, false, refl, sym, ap, ◌∙◌}
 use Rattle.std.specs.Prelude.{Some}
 use Rattle.core_views.specs.declared.answer.Answer.{Answer}
-use Rattle.core_views.specs.declared.answer.Answer.TheVariants.{Refused}
+use Rattle.core_views.specs.declared.answer.Answer.TheVariants.{Done, Refused}
 use Rattle.core_views.specs.declared.answer.AnsweredLine.{AnsweredLine}
 use Rattle.core_views.specs.declared.answer.Refusal.TheVariants.{Migrating}
 use Rattle.core_views.specs.declared.event.Event.{Event}
 use Rattle.core_views.specs.declared.event.EventKind.TheVariants.{Begun}
 use Rattle.core_views.specs.declared.sizes.Sizes.{Sizes}
 use Rattle.core_views.specs.declared.trace.Command.{Command}
-use Rattle.core_views.specs.declared.trace.Command.TheVariants.{Access, ChangeHost, ChangeRun, ClearLog, GetLog}
+use Rattle.core_views.specs.declared.trace.Command.TheVariants.{Access, ChangeHost, ChangeRun, ClearLog, GetLog, Split}
 use Rattle.core_views.specs.declared.trace.Line.{Line}
 use Rattle.core_views.specs.Events.{facts_after_all}
 use Rattle.core_views.specs.Flat.{Facts}
-use Rattle.core_views.specs.FlatHistory.{alone, answers, by, doing_by, looks}
+use Rattle.core_views.specs.FlatHistory.{alone, answers, by, doing, doing_by, looks}
 use Rattle.core_views.specs.Lawful.{answer_unbarred}
 use Rattle.core_views.specs.LogCommands.{log_read}
 use Rattle.core_views.specs.Migrations.{is_barred, is_migrating, or_barred}
@@ -73,3 +73,17 @@ barred_line line before after answer barred refused same = record {
         ap (λ (b : Bool). by line (Begun line) ∷ (looks before.sizes line line.command f
         ++ doing_by before.sizes line line.command f (or_barred b (answer_unbarred before.sizes f.slots f.migration line.actor line.command)))) barred
         ∙ ap (λ (es : List Event). by line (Begun line) ∷ es) (looks_none before.sizes line line.command f (both _ _ barred))
+
+-- A line that splits a large leaf changes nothing, and is done.
+pub split_line : (line : Line) (before : Kept) (gfn : ℕ) → line.command ≡ Split gfn
+    → GivesLine before.sizes line (facts_of before) (facts_of before) Done
+split_line line before gfn is = record {
+  leads = sym (ap (λ (es : List Event). facts_after_all es f) whole);
+  tells = ap answers_of whole;
+}
+  where
+    f : Facts
+    f = facts_of before
+
+    whole : alone before.sizes line f ≡ by line (Begun line) ∷ answers line Done
+    whole = ap (λ (c : Command). by line (Begun line) ∷ (looks before.sizes line c f ++ doing before.sizes line c f)) is

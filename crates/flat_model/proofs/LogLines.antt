@@ -10,7 +10,7 @@ use Rattle.core_views.specs.declared.answer.Refusal.{Refusal}
 use Rattle.core_views.specs.declared.event.Event.{Event}
 use Rattle.core_views.specs.declared.event.EventKind.TheVariants.{Begun, Taken}
 use Rattle.core_views.specs.declared.trace.Command.{Command}
-use Rattle.core_views.specs.declared.trace.Command.TheVariants.{Access, ChangeHost, ChangeRun, ClearLog, DeleteSlot, GetLog, Migrate, SetLog, SetSlot}
+use Rattle.core_views.specs.declared.trace.Command.TheVariants.{Access, ChangeHost, ChangeRun, ClearLog, DeleteSlot, GetLog, Migrate, SetLog, SetSlot, Split}
 use Rattle.core_views.specs.declared.trace.Line.{Line}
 use Rattle.core_views.specs.Events.{facts_after_all}
 use Rattle.core_views.specs.Flat.{Facts}
@@ -101,6 +101,7 @@ module _ (line : Line) (before after : Kept) (answer : Answer) where
   whole (DeleteSlot i) id is reads free = absurd (cc reads)
   whole (SetLog i on) id is reads free = absurd (cc reads)
   whole (Migrate call) id is reads free = absurd (cc reads)
+  whole (Split gfn) id is reads free = absurd (cc reads)
 
   pub log_line : (id : ℕ) → log_read line.command ≡ Some id → IsFree line.command before
       → ReadsLog line.command before after answer (read_refusal line.command before.slots)

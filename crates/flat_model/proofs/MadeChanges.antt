@@ -4,7 +4,7 @@ use Rattle.std.proofs.lemmas.Bool.{eq-eqb}
 use Rattle.std.specs.Prelude.{Option, Some}
 use Rattle.core_views.specs.declared.memory_slot.MemorySlot.{MemorySlot}
 use Rattle.core_views.specs.declared.trace.Command.{Command}
-use Rattle.core_views.specs.declared.trace.Command.TheVariants.{Access, ChangeHost, ChangeRun, ClearLog, DeleteSlot, GetLog, Migrate, SetLog, SetSlot}
+use Rattle.core_views.specs.declared.trace.Command.TheVariants.{Access, ChangeHost, ChangeRun, ClearLog, DeleteSlot, GetLog, Migrate, SetLog, SetSlot, Split}
 use Rattle.core_views.specs.SlotCommands.{slot_change, slots_after}
 use Rattle.core_views.specs.SlotSets.{changed_slots, slot_of_id}
 use Rattle.flat_model.specs.Dirty.{dirty_after, is_dirty}
@@ -56,4 +56,5 @@ makes_change (ChangeHost page change) id was now before after here is = absurd h
 makes_change (ChangeRun page change) id was now before after here is = absurd here
 makes_change (GetLog other) id was now before after here is = absurd here
 makes_change (Migrate call) id was now before after here is = absurd here
+makes_change (Split gfn) id was now before after here is = absurd here
 makes_change (ClearLog other first count words) id was now before after here is = absurd here

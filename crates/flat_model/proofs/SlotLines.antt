@@ -12,7 +12,7 @@ use Rattle.core_views.specs.declared.event.Event.{Event}
 use Rattle.core_views.specs.declared.event.EventKind.TheVariants.{Begun, SlotChanged}
 use Rattle.core_views.specs.declared.memory_slot.MemorySlot.{MemorySlot}
 use Rattle.core_views.specs.declared.trace.Command.{Command}
-use Rattle.core_views.specs.declared.trace.Command.TheVariants.{Access, ChangeHost, ChangeRun, ClearLog, DeleteSlot, GetLog, Migrate, SetLog, SetSlot}
+use Rattle.core_views.specs.declared.trace.Command.TheVariants.{Access, ChangeHost, ChangeRun, ClearLog, DeleteSlot, GetLog, Migrate, SetLog, SetSlot, Split}
 use Rattle.core_views.specs.declared.trace.Line.{Line}
 use Rattle.core_views.specs.Events.{facts_after_all, unlogged}
 use Rattle.core_views.specs.Flat.{Facts}
@@ -52,6 +52,7 @@ module _ (line : Line) (before after : Kept) (answer : Answer) where
   whole (GetLog id) is changes_ free = absurd (cc changes_)
   whole (ClearLog id first count words) is changes_ free = absurd (cc changes_)
   whole (Migrate call) is changes_ free = absurd (cc changes_)
+  whole (Split gfn) is changes_ free = absurd (cc changes_)
   whole command is changes_ free = is_free line before free ∙ ap (λ (c : Command). free_events before.sizes line c f) is
 
   -- the events of a change, and what comes of them
@@ -111,6 +112,7 @@ module _ (line : Line) (before after : Kept) (answer : Answer) where
   unarmed (ChangeRun page change) quiet = refl
   unarmed (GetLog id) quiet = refl
   unarmed (Migrate call) quiet = refl
+  unarmed (Split gfn) quiet = refl
   unarmed (ClearLog id first count words) quiet = refl
   unarmed (SetSlot id slot) quiet = refl
   unarmed (DeleteSlot id) quiet = refl
@@ -166,6 +168,7 @@ module _ (line : Line) (before after : Kept) (answer : Answer) where
   does_by (ChangeRun page change_) change is works done = absurd (cc is)
   does_by (GetLog id) change is works done = absurd (cc is)
   does_by (Migrate call) change is works done = absurd (cc is)
+  does_by (Split gfn) change is works done = absurd (cc is)
   does_by (ClearLog id first count words) change is works done = absurd (cc is)
 
   -- Its events make its change, and tell its answer.
@@ -197,4 +200,5 @@ module _ (line : Line) (before after : Kept) (answer : Answer) where
   slot_line (GetLog id) is changes_ free made_ = absurd (cc changes_)
   slot_line (ClearLog id first count words) is changes_ free made_ = absurd (cc changes_)
   slot_line (Migrate call) is changes_ free made_ = absurd (cc changes_)
+  slot_line (Split gfn) is changes_ free made_ = absurd (cc changes_)
   slot_line command is changes_ free made_ = gives command _ refl (whole command is changes_ free) made_

@@ -8,7 +8,7 @@ use Rattle.core_views.specs.declared.answer.Refusal.TheVariants.{Missing}
 use Rattle.core_views.specs.declared.sizes.Sizes.{Sizes}
 use Rattle.core_views.specs.declared.memory_slot.MemorySlot.{MemorySlot}
 use Rattle.core_views.specs.declared.trace.Command.{Command}
-use Rattle.core_views.specs.declared.trace.Command.TheVariants.{Access, ChangeHost, ChangeRun, ClearLog, DeleteSlot, GetLog, Migrate, SetLog, SetSlot}
+use Rattle.core_views.specs.declared.trace.Command.TheVariants.{Access, ChangeHost, ChangeRun, ClearLog, DeleteSlot, GetLog, Migrate, SetLog, SetSlot, Split}
 use Rattle.core_views.specs.Refusals.{is_logged, log_refusal}
 use Rattle.core_views.specs.SlotCommands.{arms, change_at_once, slot_change}
 use Rattle.core_views.specs.Slots.{is_some_and}
@@ -62,6 +62,7 @@ new_log z (ChangeHost page change_) slots change is works = absurd (cc is)
 new_log z (ChangeRun page change_) slots change is works = absurd (cc is)
 new_log z (GetLog id) slots change is works = absurd (cc is)
 new_log z (Migrate call) slots change is works = absurd (cc is)
+new_log z (Split gfn) slots change is works = absurd (cc is)
 new_log z (ClearLog id first count words) slots change is works = absurd (cc is)
 new_log z (DeleteSlot id) slots change is works = ap (λ (c : ℕ × Option MemorySlot). has_log c.1) (sym (same_Some _ _ is))
 new_log z (SetSlot id slot) slots change is works =

@@ -9,7 +9,7 @@ use Rattle.std.proofs.lemmas.Map.Views.{All-values-insert_entry, IfSome-lookup_f
 use Rattle.core_views.specs.declared.sizes.Sizes.{Sizes}
 use Rattle.core_views.specs.declared.memory_slot.MemorySlot.{MemorySlot}
 use Rattle.core_views.specs.declared.trace.Command.{Command}
-use Rattle.core_views.specs.declared.trace.Command.TheVariants.{Access, ChangeHost, ChangeRun, ClearLog, DeleteSlot, GetLog, Migrate, SetLog, SetSlot}
+use Rattle.core_views.specs.declared.trace.Command.TheVariants.{Access, ChangeHost, ChangeRun, ClearLog, DeleteSlot, GetLog, Migrate, SetLog, SetSlot, Split}
 use Rattle.core_views.specs.declared.trace.Slot.{Slot}
 use Rattle.core_views.specs.Refusals.{is_logged}
 use Rattle.core_views.specs.SlotCommands.{change_at_once, slots_after}
@@ -38,6 +38,7 @@ slots_fit z (ChangeHost page change) slots works all = all
 slots_fit z (ChangeRun page change) slots works all = all
 slots_fit z (GetLog id) slots works all = all
 slots_fit z (Migrate call) slots works all = all
+slots_fit z (Split gfn) slots works all = all
 slots_fit z (ClearLog id first count words) slots works all = all
 slots_fit z (SetLog id on) slots works all = by (slot_of_id id slots) refl
   where

@@ -109,6 +109,7 @@ impl Plain {
                 self.read_log(alloc, &line.command, id)
             }
             Command::Migrate { call } => self.migrate(alloc, call),
+            Command::Split { .. } => Ok(Answer::Done),
         }
     }
 

@@ -28,7 +28,7 @@ impl SlotSet {
             },
             Command::SetLog { id, on } => self.check_log(*id, *on).err().map(Some),
             Command::Access { .. } | Command::ChangeHost { .. } => None,
-            Command::ChangeRun { .. } => None,
+            Command::ChangeRun { .. } | Command::Split { .. } => None,
             Command::GetLog { .. } | Command::ClearLog { .. } | Command::Migrate { .. } => None,
         }
     }
@@ -55,7 +55,7 @@ impl SlotSet {
             Command::DeleteSlot { id } => self.take_out(*id),
             Command::SetLog { id, on } => self.put_log(*id, *on),
             Command::Access { .. } | Command::ChangeHost { .. } => {}
-            Command::ChangeRun { .. } => {}
+            Command::ChangeRun { .. } | Command::Split { .. } => {}
             Command::GetLog { .. } | Command::ClearLog { .. } | Command::Migrate { .. } => {}
         }
     }
@@ -67,7 +67,7 @@ impl SlotSet {
         match command {
             Command::SetSlot { id, .. } | Command::DeleteSlot { id } => Some(self.get(*id)?.slot),
             Command::Access { .. } | Command::ChangeHost { .. } | Command::SetLog { .. } => None,
-            Command::ChangeRun { .. } => None,
+            Command::ChangeRun { .. } | Command::Split { .. } => None,
             Command::GetLog { .. } | Command::ClearLog { .. } | Command::Migrate { .. } => None,
         }
     }
@@ -81,7 +81,7 @@ impl SlotSet {
             Command::SetLog { on: false, .. } => None,
             Command::SetSlot { .. } | Command::DeleteSlot { .. } => None,
             Command::Access { .. } | Command::ChangeHost { .. } => None,
-            Command::ChangeRun { .. } => None,
+            Command::ChangeRun { .. } | Command::Split { .. } => None,
             Command::GetLog { .. } | Command::ClearLog { .. } | Command::Migrate { .. } => None,
         }
     }

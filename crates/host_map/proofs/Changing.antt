@@ -10,6 +10,7 @@ use Rattle.spte_words.specs.declared.area.Area.{Area}
 use Rattle.spte_words.specs.declared.area.Area.TheVariants as area
 use Rattle.spte_words.specs.HostWords.{host_frame, with_presence}
 use Rattle.part_steps.specs.FrameTopics.{frame_after}
+use Rattle.part_steps.specs.PageRuns.{one_look}
 use Rattle.part_steps.specs.PartSteps.{PartNeeds}
 use Rattle.part_steps.specs.PartTasks.{own_index, page_looked, part_task, word_looked}
 use Rattle.part_steps.specs.PartTopics.{changed_host, exchanged_host, part_topics}
@@ -38,7 +39,7 @@ brings_so : (new_ found : ℕ) (answer : Changed) (t : Topics) → found ≡ cha
     → exchanged_host new_ t found ≡ holding_word new_ answer t
 brings_so new_ found answer t is other =
     ap (λ v. exchanged_host new_ t v) is
-    ∙ ap (λ n. record t { host = Some (record { page = page_looked t.host; word = n }) }) (leaves_so (word_looked t.host) new_ answer other)
+    ∙ ap (λ n. record t { host = Some (record { page = page_looked t.host; word = n }); row = one_look }) (leaves_so (word_looked t.host) new_ answer other)
 
 -- the frame that is owned after a change, by its answer
 frame_so : (was old_ : ℕ) (answer : Changed) (owned : Option OwnedFrame) → WasAnother was answer
@@ -52,11 +53,13 @@ changes_so new_ found answer t is other =
     ap (λ v. changed_host new_ t v) is
     ∙ ap (λ n. record t {
       host = Some (record { page = page_looked t.host; word = n });
+      row = one_look;
       watched = 0;
       frames = record t.frames { owned = frame_after (change_found was answer == was) (host_frame was) t.frames.owned };
     }) (leaves_so was new_ answer other)
     ∙ ap (λ o. record t {
       host = Some (record { page = page_looked t.host; word = word_after_exchange new_ answer });
+      row = one_look;
       watched = 0;
       frames = record t.frames { owned = o };
     }) (frame_so was (host_frame was) answer t.frames.owned other)

@@ -18,6 +18,7 @@ use Rattle.part_steps.specs.Tasks.{kind_of_task, map_of}
 use Rattle.part_steps.specs.declared.part_step.PartStep.{PartStep}
 use Rattle.part_steps.specs.declared.part_step.PartStep.TheVariants.{Host}
 use Rattle.part_steps.specs.declared.part_step.PartStep.TheVariants as part
+use Rattle.part_steps.specs.PageRuns.{one_look}
 use Rattle.part_steps.specs.PartTasks.{page_looked, word_looked}
 use Rattle.host_map.specs.declared.host.Changed.{Changed}
 use Rattle.host_map.specs.declared.host.Changed.TheVariants.{Set, Lost}
@@ -89,7 +90,7 @@ word_after_exchange new_ (Lost seen) = seen
 
 -- what is held after a page was to be brought in: nothing else has changed
 abbrev pub holding_word : ℕ → Changed → Topics → Topics
-holding_word new_ answer t = record t { host = Some (record { page = page_looked t.host; word = word_after_exchange new_ answer }) }
+holding_word new_ answer t = record t { host = Some (record { page = page_looked t.host; word = word_after_exchange new_ answer }); row = one_look }
 
 -- The frame that is owned after a change: where this was won, the page's old one stands in its place, if one was owned.
 abbrev pub frame_held : Changed → ℕ → Option OwnedFrame → Option OwnedFrame
@@ -100,6 +101,7 @@ frame_held (Lost seen) old_ owned = owned
 abbrev pub holding_changed : ℕ → Changed → Topics → Topics
 holding_changed new_ answer t = record t {
   host = Some (record { page = page_looked t.host; word = word_after_exchange new_ answer });
+  row = one_look;
   watched = 0;
   frames = record t.frames { owned = frame_held answer (host_frame (word_looked t.host)) t.frames.owned };
 }

@@ -2,6 +2,7 @@ ghost use Rattle.std.specs.Prelude.{◌≡◌, ◌<◌, Some, true};
 ghost use Rattle.host_map.specs.Touching.{MakesExchange, IsExchange, LeavesHostWord, WasHostWord, holding_changed, holding_word, after_exchange};
 ghost use Rattle.mmu_core.specs.machine.MayMake.{MayMake};
 ghost use Rattle.part_steps.specs.declared.part_step.PartStep.TheVariants.{Bring, Change, Host};
+ghost use Rattle.part_steps.specs.PageRuns.{one_look};
 ghost use Rattle.part_steps.specs.PartTasks.{word_looked};
 ghost use Rattle.spte_words.specs.HostWords.{with_presence};
 ghost use Rattle.step_seats.specs.Moves.{KeepsSeat};
@@ -18,7 +19,7 @@ pub fn look<S: Stepper>(s: &mut S, page: u64, note: u64) -> u64
     requires may { MayMake (Host page) note (S.seat s.old).hand }
     requires reserved { 0 < (S.seat s.old).room }
     ensures step { MadePart (Host page) note result (S.seat s.old) (S.seat s.new) }
-    ensures host { (S.seat s.new).hand.topics ≡ record (S.seat s.old).hand.topics { host = Some (record { page = page; word = result }) } }
+    ensures host { (S.seat s.new).hand.topics ≡ record (S.seat s.old).hand.topics { host = Some (record { page = page; word = result }); row = one_look } }
     ensures told { WasHostWord page note result (S.seat s.old) (S.seat s.new) }
     ensures keeps { KeepsSeat (S.seat s.old) (S.seat s.new) (S.frame s.old) (S.frame s.new) }
 {

@@ -3,15 +3,15 @@ use Rattle.std.specs.Prelude.{ℕ, Bool, true, false}
 use Rattle.core_views.specs.declared.topics.Checked.TheVariants as checked
 use Rattle.core_views.specs.declared.topics.Topics.{Topics}
 use Rattle.part_steps.specs.ControlTopics.{end_known, start_known}
-use Rattle.part_steps.specs.InvalidationRange.{page_aimed, run_or_none}
+use Rattle.part_steps.specs.InvalidationRange.{run_aimed}
 
--- the start of the range: from then on the actor's own invalidation is of the guest frames from this first one on, and of the host page that it is aimed at
+-- the start of the range: from then on the actor's own invalidation is of the guest frames from this first one on, and of the host pages that it is aimed at
 abbrev pub started : ℕ → ℕ → Topics → Topics
 started first n t = record t {
   invalidations = record t.invalidations {
     start = n;
     checked = start_known t.invalidations.checked;
-    own = record { pages = run_or_none (page_aimed t); start = first; end = t.invalidations.own.end };
+    own = record { pages = run_aimed t; start = first; end = t.invalidations.own.end };
   };
 }
 

@@ -21,9 +21,10 @@ use Rattle.part_steps.specs.declared.invalidations.Target.{Target}
 use Rattle.part_steps.specs.declared.invalidations.Target.TheVariants as aim
 use Rattle.part_steps.specs.declared.part_step.PartStep.{PartStep}
 use Rattle.part_steps.specs.declared.part_step.PartStep.TheVariants as part
-use Rattle.part_steps.specs.InvalidationRange.{page_of_target, IsOnRun, run_or_none}
+use Rattle.part_steps.specs.InvalidationRange.{IsOnRun, run_of_target}
+use Rattle.job_laws.proofs.BegunFrames.{as_begun, frames_begun, frames_then, on_begun, some_begun, unchanged, unchanged_more}
 use Rattle.part_steps.specs.PartSteps.{PartNeeds}
-use Rattle.part_steps.specs.PartTasks.{part_kind}
+use Rattle.part_steps.specs.PartTasks.{part_kind, word_next}
 use Rattle.part_steps.specs.PartTopics.{part_topics}
 use Rattle.part_steps.specs.StayTopics.{no_flush}
 use Rattle.mmu_core.specs.invariant.InvalidatedPart.{IsApart, IsIn, keeps_empty}
@@ -58,7 +59,7 @@ use Rattle.core_views.specs.declared.topics.PageRun.{PageRun}
 -- The actor's own invalidation is open, and of these frames; each of so many virtual processors was asked for a flush, and awaited.
 record IsEmptied (own_ : Invalidated) (vcpus : ℕ) (t : Topics) : Type 0 where
   opened : t.invalidations.opened ≡ true
-  own_is : t.invalidations.own ≡ own_
+  own_is : as_begun t.invalidations.own ≡ as_begun own_
   asked : vcpus ≤ t.flush.asked
   awaited : vcpus ≤ t.flush.awaited
 
@@ -94,6 +95,14 @@ module _ (own_ : Invalidated) (vcpus : ℕ) where
 
       kept : (part_topics part.Exclude h.topics v).flush ≡ h.topics.flush
       kept = by (v == 0) h.topics.invalidations.opened E.opened
+  stays_emptied part.ChangeNext h v N E opened = record {
+    opened = opened;
+    own_is =
+        ap (λ (o : Option PageRun). record h.topics.invalidations.own { pages = o })
+        (unchanged_more (v == word_next h.topics.invalidations.own.pages) h.topics.invalidations.own.pages) ∙ E.own_is;
+    asked = E.asked;
+    awaited = E.awaited;
+  }
   stays_emptied _ h v N E opened = record { opened = opened; own_is = E.own_is; asked = E.asked; awaited = E.awaited }
 
   -- So does each step of an actor.
@@ -158,10 +167,14 @@ nothing_left target z w a own_ sound lt E some empty covers_all = record {
 
 -- The frames are those of the target.
 covers_target : (target : Target) (z : Sizes) (w : World Held) (a : ℕ) → IsSound z w → a < actors_of z
-    → (hand_in mmu w a).topics.invalidations.opened ≡ true → (hand_in mmu w a).topics.invalidations.own.pages ≡ run_or_none (page_of_target target)
+    → (hand_in mmu w a).topics.invalidations.opened ≡ true → unchanged ((hand_in mmu w a).topics.invalidations.own.pages) ≡ unchanged (run_of_target target)
     → FramesAre target (hand_in mmu w a).topics.invalidations.own → CoversTarget target z w (hand_in mmu w a).topics.invalidations.own
 covers_target (aim.Page page) z w a sound lt opened of_pages few gfn of_it =
-    (sound.topics.scopes a lt opened (ap (λ (o : Option PageRun). is_some o) of_pages)).covers page gfn (subst (IsOnRun page) (sym of_pages) refl) of_it
+    (sound.topics.scopes a lt opened (some_begun (hand_in mmu w a).topics.invalidations.own.pages ∙ ap (λ (o : Option PageRun). is_some o) of_pages)).covers page gfn
+    (on_begun page (hand_in mmu w a).topics.invalidations.own.pages (subst (IsOnRun page) (sym of_pages) refl)) of_it
+covers_target (aim.Run run) z w a sound lt opened of_pages few gfn of_it =
+    (sound.topics.scopes a lt opened (some_begun (hand_in mmu w a).topics.invalidations.own.pages ∙ ap (λ (o : Option PageRun). is_some o) of_pages)).covers of_it.0
+    gfn (on_begun of_it.0 (hand_in mmu w a).topics.invalidations.own.pages (subst (IsOnRun of_it.0) (sym of_pages) of_it.1)) of_it.2
 covers_target (aim.Slot slot) z w a sound lt opened of_page few gfn of_it =
     let start = few.0 in let end_ = few.1 in let low = of_it.0 in let high = of_it.1 in (omega (arith, start, low), omega (arith, end_, high))
 
@@ -240,7 +253,7 @@ module _ (job : BeginJob) (note : ℕ) (before after : Seat) (w : World Held) (D
       empty = subst (λ (x : Held). keeps_empty x.topics ≡ true) (sym S.then.is) B.opened;
       emptied = subst (λ (x : Held). IsEmptied before.hand.topics.invalidations.own r.sizes.vcpus x.topics) (sym S.then.is) (record {
         opened = empty_open after.hand.topics B.opened;
-        own_is = ap (λ (t : Topics). t.invalidations.own) D.made.topics;
+        own_is = ap (λ (t : Topics). as_begun t.invalidations.own) D.made.topics;
         asked = let asked = B.asked in omega (arith, asked, vcpus);
         awaited = let awaited = B.awaited in omega (arith, awaited, vcpus);
       });
@@ -266,7 +279,9 @@ module _ (job : BeginJob) (note : ℕ) (before after : Seat) (w : World Held) (D
       subst (λ (z : Sizes). NothingIsLeft job.target z (run mmu w ss)) (sym L.0)
       (nothing_left job.target r.sizes (run mmu w ss) before.actor before.hand.topics.invalidations.own sound L.1.there E.0 sound.holds.sizes.some E.1
       (covers_target job.target r.sizes (run mmu w ss) before.actor sound L.1.there E.0.opened
-      (ap (λ (o : Invalidated). o.pages) E.0.own_is ∙ D.knows.1.of_pages) (subst (FramesAre job.target) (sym E.0.own_is) D.knows.1.few)))
+      (ap (λ (o : Invalidated). o.pages) E.0.own_is ∙ ap unchanged D.knows.1.of_pages)
+      (frames_then job.target (hand_in mmu (run mmu w ss) before.actor).topics.invalidations.own
+      (subst (FramesAre job.target) (sym E.0.own_is) (frames_begun job.target before.hand.topics.invalidations.own D.knows.1.few)))))
 
   left_told : (ss : List (Step Kind)) → Legal mmu w ss → StaysBegun w ss before.actor → NothingIsLeft job.target before.hand.state.sizes (run mmu w ss)
   left_told ss legal stays = record {

@@ -1,7 +1,10 @@
 pub mod Told
 pub mod Begun
+pub mod BegunFrames
 pub mod EndSteps
 pub mod Ended
 pub mod Turned
 pub mod OneChange
 pub mod ReadOut
+pub mod SplitSteps
+pub mod SplitLines

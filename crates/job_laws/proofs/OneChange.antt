@@ -13,7 +13,7 @@ use Rattle.core_views.specs.declared.place.Place.TheVariants as place
 use Rattle.core_views.specs.declared.sizes.Sizes.{Sizes}
 use Rattle.core_views.specs.declared.topics.Topics.{Topics}
 use Rattle.core_views.specs.declared.trace.Command.{Command}
-use Rattle.core_views.specs.declared.trace.Command.TheVariants.{Access, ChangeHost}
+use Rattle.core_views.specs.declared.trace.Command.TheVariants.{Access, ChangeHost, ChangeRun, Split}
 use Rattle.core_views.specs.declared.trace.Line.{Line}
 use Rattle.core_views.specs.Events.{after_all, facts_after, under_after}
 use Rattle.core_views.specs.Flat.{Facts, Flat, Idle, LineUnderWay, first_flat}
@@ -71,6 +71,10 @@ under_line (place.Access p) z pool line other _ t kinds f u at (inr is) all = ab
 under_line (place.SlotChange p) z pool line other command t kinds f u at (inr is) all = same_behind kinds f u all ∙ at.0 ∙ sym is
 under_line (place.Host p) z pool line other (ChangeHost page change) t kinds f u at (inr is) all = same_behind kinds f u all ∙ at.0 ∙ sym is
 under_line (place.Host p) z pool line other _ t kinds f u at (inr is) all = absurd at
+under_line (place.HostRun p) z pool line other (ChangeRun page change) t kinds f u at (inr is) all = same_behind kinds f u all ∙ at.0 ∙ sym is
+under_line (place.HostRun p) z pool line other _ t kinds f u at (inr is) all = absurd at
+under_line (place.Split p) z pool line other (Split gfn) t kinds f u at (inr is) all = same_behind kinds f u all ∙ at.0 ∙ sym is
+under_line (place.Split p) z pool line other _ t kinds f u at (inr is) all = absurd at
 under_line (place.Log p) z pool line other command t kinds f u at (inr is) all = same_behind kinds f u all ∙ at.0 ∙ sym is
 
 -- ---- the line's history

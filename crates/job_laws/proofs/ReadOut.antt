@@ -9,12 +9,11 @@ use Rattle.core_views.specs.declared.place.LogPlace.{LogPlace}
 use Rattle.core_views.specs.declared.place.LogPlace.TheVariants as log
 use Rattle.core_views.specs.declared.place.Place.{Place}
 use Rattle.core_views.specs.declared.place.Place.TheVariants as place
-use Rattle.core_views.specs.declared.place.SlotChangePlace.TheVariants.{WriteProtect}
 use Rattle.core_views.specs.declared.sizes.Sizes.{Sizes}
 use Rattle.core_views.specs.declared.topics.Hold.TheVariants.{Loose}
 use Rattle.core_views.specs.declared.topics.Topics.{Topics}
 use Rattle.core_views.specs.declared.trace.Command.{Command}
-use Rattle.core_views.specs.declared.trace.Command.TheVariants.{Access, ChangeHost, ClearLog, GetLog}
+use Rattle.core_views.specs.declared.trace.Command.TheVariants.{Access, ChangeHost, ChangeRun, ClearLog, GetLog, Split}
 use Rattle.core_views.specs.declared.trace.Slot.{Slot}
 use Rattle.core_views.specs.Held.{Held}
 use Rattle.core_views.specs.LogCommands.{log_read, takes_out}
@@ -104,6 +103,10 @@ reading_ends (place.Access q) (Access gfn word op) h v words t K reads out e is 
 reading_ends (place.Access q) _ h v words t K reads out e is = absurd K
 reading_ends (place.Host q) (ChangeHost page change) h v words t K reads out e is = absurd (cc reads)
 reading_ends (place.Host q) _ h v words t K reads out e is = absurd K
+reading_ends (place.HostRun q) (ChangeRun page change) h v words t K reads out e is = absurd (cc reads)
+reading_ends (place.HostRun q) _ h v words t K reads out e is = absurd K
+reading_ends (place.Split q) (Split gfn) h v words t K reads out e is = absurd (cc reads)
+reading_ends (place.Split q) _ h v words t K reads out e is = absurd K
 reading_ends _ c h v words t K reads out e is = absurd (cc e)
 
 reading_form : (c : Command) → is_some (log_read c) ≡ true → is_access c ≡ false

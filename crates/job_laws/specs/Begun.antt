@@ -10,7 +10,7 @@ use Rattle.spte_words.specs.Entries.{kind_of}
 use Rattle.part_steps.specs.declared.invalidations.Target.{Target}
 use Rattle.part_steps.specs.declared.invalidations.Target.TheVariants as aim
 use Rattle.mmu_core.specs.alone.Leads.{LeadsTo}
-use Rattle.mmu_core.specs.invariant.InvalidatedPart.{SlotGives, keeps_empty, may_use}
+use Rattle.mmu_core.specs.invariant.InvalidatedPart.{GivesOne, SlotGives, keeps_empty, may_use}
 use Rattle.mmu_core.specs.forms.access.Cached.{covers}
 use Rattle.mmu_core.specs.machine.Enabled.{mmu}
 use Rattle.mmu_core.specs.machine.Machine.{Legal, Step, World, effect, hand_in, run}
@@ -20,10 +20,11 @@ use Rattle.step_seats.specs.declared.turn.Turn.TheVariants.{Done}
 use Rattle.range_notifier.specs.declared.begin.BeginJob.{BeginJob}
 use Rattle.range_notifier.specs.Notifying.{BeginsNext, TurnsBegin}
 
--- The guest frame is one of the target's: of the slot, or of those that the published slots give to the host page.
+-- The guest frame is one of the target's: of the slot, or of those that the published slots give to the host page, or to one of the run.
 abbrev pub IsOfTarget : Target → Sizes → World Held → ℕ → Type 0
 IsOfTarget (aim.Slot slot) z w gfn = (slot.base ≤ gfn) × (gfn < slot.base + slot.pages)
 IsOfTarget (aim.Page page) z w gfn = SlotGives (word_in z w area.Pool) (word_in z w area.Slots 0) page gfn
+IsOfTarget (aim.Run run) z w gfn = GivesOne (word_in z w area.Pool) (word_in z w area.Slots 0) (Some run) gfn
 
 -- No links lead from the root to a leaf of a guest frame of the target, and no virtual processor that may use what it has cached has anything cached of one.
 pub record NothingIsLeft (target : Target) (z : Sizes) (w : World Held) : Type 0 where

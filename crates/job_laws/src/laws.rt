@@ -2,6 +2,7 @@ ghost use Rattle.job_laws.specs.Begun.{BegunFramesAreEmpty, DoneHasBegun};
 ghost use Rattle.job_laws.specs.Ended.{EndsRaiseOnce};
 ghost use Rattle.job_laws.specs.OneChange.{HostJobsChangeOnce, SlotJobsChangeOnce};
 ghost use Rattle.job_laws.specs.ReadOut.{AfterReadingsWritesAreCovered, ReadingsHaveFlushes};
+ghost use Rattle.job_laws.specs.Splits.{SplitsTellWhatTheyFound};
 
 /// A law about `BeginJob`. A turn that answers `Done` leaves the hand with its own invalidation open,
 /// each virtual processor asked for a flush and awaited, and the lock given back (`begun`). Then no
@@ -46,4 +47,13 @@ pub fn slot_lines_change_once()
 /// it asks, and is answered so; or it is refused, and has changed none.
 pub fn host_lines_change_once()
     ensures { HostJobsChangeOnce }
+{}
+
+/// A law about `SplitJob`. Whatever steps led to the world in which a turn answers a line, its answer tells
+/// what these came to: `Split` that one of them, made in this line, exchanged the large leaf that the line had
+/// loaded for a link; `Changed` that this exchange was lost, for it found this word in place of the leaf;
+/// `Nothing` that the guest frame's entry was seen as this word, at which no walk goes on and which is no large
+/// leaf; `Starved` that the line's claim has come to the end of the pool's map.
+pub fn splits_tell_what_they_found()
+    ensures { SplitsTellWhatTheyFound }
 {}

@@ -5,11 +5,11 @@ use Rattle.std.proofs.lemmas.List.Elements.{All-cons, All-nil, All-weaker}
 use Rattle.std.proofs.lemmas.Option.{slice_get-get_or}
 use Rattle.std.specs.Prelude.{All, Bool, false, filter, if◌then◌else◌, slice_get, true}
 use Rattle.core_views.specs.declared.actor.Actor.{Actor}
-use Rattle.core_views.specs.declared.actor.Actor.TheVariants.{Vcpu, Host, Manager}
+use Rattle.core_views.specs.declared.actor.Actor.TheVariants.{Vcpu, Host, Manager, Worker}
 use Rattle.core_views.specs.declared.answer.AnsweredLine.{AnsweredLine}
 use Rattle.core_views.specs.declared.sizes.Sizes.{Sizes}
 use Rattle.core_views.specs.declared.trace.Command.{Command}
-use Rattle.core_views.specs.declared.trace.Command.TheVariants.{Access, ChangeHost}
+use Rattle.core_views.specs.declared.trace.Command.TheVariants.{Access, ChangeHost, ChangeRun, Split}
 use Rattle.core_views.specs.declared.trace.Line.{Line}
 use Rattle.core_views.specs.declared.trace.Trace.{Trace}
 use Rattle.core_views.specs.Actors.{is_same}
@@ -30,7 +30,9 @@ use Rattle.live_engine.specs.Lives.{AreInFileOrder, Lives, told_by}
 has_actor : (z : Sizes) (actor : Actor) (command : Command) → IsCommandFor z actor command → HasActor z actor
 has_actor z (Vcpu n) (Access gfn word op) may = may.0
 has_actor z (Host n) (ChangeHost page change) may = may
+has_actor z (Host n) (ChangeRun page change) may = may.0
 has_actor z Manager command may = tt
+has_actor z (Worker n) (Split gfn) may = may.0
 has_actor z _ _ may = absurd may
 
 -- The hand at a place.

@@ -16,7 +16,7 @@ use Rattle.core_views.specs.declared.place.SlotChangePlace.{SlotChangePlace}
 use Rattle.core_views.specs.declared.place.WriteProtectPlace.TheVariants as protect
 use Rattle.core_views.specs.declared.sizes.Sizes.{Sizes}
 use Rattle.core_views.specs.declared.topics.Topics.{Topics}
-use Rattle.core_views.specs.declared.trace.Command.TheVariants.{Access, ChangeHost, ClearLog, GetLog}
+use Rattle.core_views.specs.declared.trace.Command.TheVariants.{Access, ChangeHost, ChangeRun, ClearLog, GetLog, Split}
 use Rattle.core_views.specs.declared.trace.Command.{Command}
 use Rattle.core_views.specs.declared.trace.Line.{Line}
 use Rattle.core_views.specs.declared.trace.Slot.{Slot as SlotOf}
@@ -138,8 +138,10 @@ end_off_log ends.Release t = refl
 first_all_set : (z y : Sizes) (slots : MemorySlots) (h : Held) (log : ℕ → ℕ) (c : Command) → IsAllSetAt z (first_place y slots c) c h log
 first_all_set z y slots h log (Access gfn word op) = λ gfn slot mode O is. absurd O
 first_all_set z y slots h log (ChangeHost page change) = λ gfn slot mode O is. absurd O
+first_all_set z y slots h log (ChangeRun page change) = λ gfn slot mode O is. absurd O
 first_all_set z y slots h log (GetLog id) = λ gfn slot mode O is. absurd O
 first_all_set z y slots h log (ClearLog id first count words) = λ gfn slot mode O is. absurd O
+first_all_set z y slots h log (Split gfn) = λ gfn slot mode O is. absurd O
 first_all_set z y slots h log c = by (change_at_once y c slots)
   where
     by : (r : Option (Option Refusal)) → IsAllSetAt z (place.SlotChange (slot_change_first r)) c h log

@@ -203,7 +203,9 @@ fast_after (place.Access p) (Access gfn word op) h v F = access_writes p h gfn w
 fast_after (place.SlotChange p) command h v F =
     no_access (slot_change_outcome p command h v) command (simple_is_no_access (slot_change_outcome p command h v) (slot_change_goes p command h v).1)
 fast_after (place.Host p) (ChangeHost page change) h v F = no_access (host_outcome p page h v) (ChangeHost page change) (host_goes p page h v).1
+fast_after (place.HostRun p) command h v F = no_access (outcome_at (place.HostRun p) command h v) command (outcome_apart (place.HostRun p) command h v tt)
 fast_after (place.Log p) command h v F = no_access (outcome_at (place.Log p) command h v) command (outcome_apart (place.Log p) command h v tt)
+fast_after (place.Split p) command h v F = no_access (outcome_at (place.Split p) command h v) command (outcome_apart (place.Split p) command h v tt)
 fast_after p command h v F = F
 
 pub fast_kept : (z : Sizes) (v : View) (a : ℕ) (line : Line) (command : Command) (p : Place) → IsStep z v a line command p → FastAt z v

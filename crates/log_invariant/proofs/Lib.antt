@@ -29,6 +29,7 @@ pub mod StartLogs
 pub mod StepPlaces
 pub mod SweptWrites
 pub mod TranslationsKept
+pub mod UsualSteps
 pub mod WithinKept
 pub mod WordsApart
 pub mod forms

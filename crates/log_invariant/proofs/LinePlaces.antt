@@ -5,7 +5,7 @@ use Rattle.core_views.specs.SlotCommands.{changes_slot}
 use Rattle.core_views.specs.declared.place.Place.TheVariants as place
 use Rattle.core_views.specs.declared.place.Place.{Place}
 use Rattle.core_views.specs.declared.sizes.Sizes.{Sizes}
-use Rattle.core_views.specs.declared.trace.Command.TheVariants.{Access, ChangeHost, ClearLog, GetLog}
+use Rattle.core_views.specs.declared.trace.Command.TheVariants.{Access, ChangeHost, ChangeRun, ClearLog, GetLog, Split}
 use Rattle.core_views.specs.declared.trace.Command.{Command}
 use Rattle.mmu_core.proofs.forms.log.LogTold.{log_knows_reads}
 use Rattle.mmu_core.proofs.machine.Which.{has_line_is}
@@ -29,8 +29,10 @@ pub changes_none : (z : Sizes) (pool : ℕ → ℕ) (set : ℕ) (p : Place) (com
     → Holds z pool set p command h → KnowsPart p command h → changes_slot command ≡ false
 changes_none z pool set (place.Access p) (Access gfn word op) h other begun holds K = refl
 changes_none z pool set (place.Host p) (ChangeHost page change) h other begun holds K = refl
+changes_none z pool set (place.HostRun p) (ChangeRun page change) h other begun holds K = refl
 changes_none z pool set (place.Log p) command h other begun holds K = reads_change_none command (log_knows_reads p command h K)
 changes_none z pool set (place.SlotChange p) command h other begun holds K = absurd (cc other)
+changes_none z pool set (place.Split p) (Split gfn) h other begun holds K = refl
 changes_none z pool set place.Between command h other begun holds K = absurd begun
 changes_none z pool set _ _ h other begun holds K = absurd holds
 

@@ -7,7 +7,7 @@ use Rattle.core_views.specs.declared.place.SlotField.TheVariants.{Flags}
 use Rattle.core_views.specs.declared.sizes.Sizes.{Sizes}
 use Rattle.core_views.specs.declared.memory_slot.MemorySlot.{MemorySlot}
 use Rattle.core_views.specs.declared.trace.Command.{Command}
-use Rattle.core_views.specs.declared.trace.Command.TheVariants.{Access, ChangeHost, ChangeRun, ClearLog, DeleteSlot, GetLog, Migrate, SetLog, SetSlot}
+use Rattle.core_views.specs.declared.trace.Command.TheVariants.{Access, ChangeHost, ChangeRun, ClearLog, DeleteSlot, GetLog, Migrate, SetLog, SetSlot, Split}
 use Rattle.core_views.specs.declared.trace.Slot.{Slot as SlotOf}
 use Rattle.core_views.specs.Refusals.{is_logged, log_refusal}
 use Rattle.core_views.specs.SlotCommands.{arms, change_at_once, slot_armed}
@@ -82,4 +82,5 @@ armed_at z pool set (SetSlot id slot) slots R is works = absurd (cc is)
 armed_at z pool set (DeleteSlot id) slots R is works = absurd (cc is)
 armed_at z pool set (GetLog id) slots R is works = absurd (cc is)
 armed_at z pool set (Migrate call) slots R is works = absurd (cc is)
+armed_at z pool set (Split gfn) slots R is works = absurd (cc is)
 armed_at z pool set (ClearLog id first count words) slots R is works = absurd (cc is)

@@ -12,7 +12,7 @@ use Rattle.core_views.specs.declared.place.Place.TheVariants as place
 use Rattle.core_views.specs.declared.sizes.Sizes.{Sizes}
 use Rattle.core_views.specs.declared.memory_slot.MemorySlot.{MemorySlot}
 use Rattle.core_views.specs.declared.trace.Command.{Command}
-use Rattle.core_views.specs.declared.trace.Command.TheVariants.{Access, ChangeHost, ChangeRun, ClearLog, DeleteSlot, GetLog, Migrate, SetLog, SetSlot}
+use Rattle.core_views.specs.declared.trace.Command.TheVariants.{Access, ChangeHost, ChangeRun, ClearLog, DeleteSlot, GetLog, Migrate, SetLog, SetSlot, Split}
 use Rattle.core_views.specs.declared.trace.Slot.{Slot as SlotOf}
 use Rattle.spte_words.specs.declared.area.Area.TheVariants as area
 use Rattle.part_steps.specs.SlotWords.{slot_at}
@@ -41,6 +41,7 @@ armed_live pool set slots (SetSlot id new_) slot R is = absurd (cc is)
 armed_live pool set slots (DeleteSlot id) slot R is = absurd (cc is)
 armed_live pool set slots (GetLog id) slot R is = absurd (cc is)
 armed_live pool set slots (Migrate call) slot R is = absurd (cc is)
+armed_live pool set slots (Split gfn) slot R is = absurd (cc is)
 armed_live pool set slots (ClearLog id first count words) slot R is = absurd (cc is)
 
 -- Where a line begins the log of a slot with the guest frame, and others may not know of it, this slot is the published one with the guest frame.

@@ -7,7 +7,7 @@ use Rattle.core_views.specs.declared.place.SlotChangePlace.TheVariants as change
 use Rattle.core_views.specs.declared.sizes.Sizes.{Sizes}
 use Rattle.core_views.specs.declared.memory_slot.MemorySlot.{MemorySlot}
 use Rattle.core_views.specs.declared.trace.Command.{Command}
-use Rattle.core_views.specs.declared.trace.Command.TheVariants.{Access, ChangeHost, ChangeRun, ClearLog, DeleteSlot, GetLog, Migrate, SetLog, SetSlot}
+use Rattle.core_views.specs.declared.trace.Command.TheVariants.{Access, ChangeHost, ChangeRun, ClearLog, DeleteSlot, GetLog, Migrate, SetLog, SetSlot, Split}
 use Rattle.core_views.specs.declared.trace.Line.{Line}
 use Rattle.core_views.specs.declared.trace.Slot.{Slot as SlotOf}
 use Rattle.core_views.specs.Refusals.{is_logged}
@@ -119,6 +119,7 @@ keeps_recorded z (ChangeHost page change) slots changes works = absurd (cc chang
 keeps_recorded z (ChangeRun page change) slots changes works = absurd (cc changes)
 keeps_recorded z (GetLog id) slots changes works = absurd (cc changes)
 keeps_recorded z (Migrate call) slots changes works = absurd (cc changes)
+keeps_recorded z (Split gfn) slots changes works = absurd (cc changes)
 keeps_recorded z (ClearLog id first count words) slots changes works = absurd (cc changes)
 
 -- ---- of the words of both sets
@@ -212,4 +213,5 @@ armed_stays slots (SetSlot id new_) = refl
 armed_stays slots (DeleteSlot id) = refl
 armed_stays slots (GetLog id) = refl
 armed_stays slots (Migrate call) = refl
+armed_stays slots (Split gfn) = refl
 armed_stays slots (ClearLog id first count words) = refl

@@ -14,7 +14,7 @@ use Rattle.core_views.specs.declared.event.EventKind.TheVariants.{HostChanged, S
 use Rattle.core_views.specs.declared.memory_slot.MemorySlot.{MemorySlot}
 use Rattle.core_views.specs.declared.sizes.Sizes.{Sizes}
 use Rattle.core_views.specs.declared.trace.Command.{Command}
-use Rattle.core_views.specs.declared.trace.Command.TheVariants.{Access, ChangeHost, ClearLog, DeleteSlot, GetLog, Migrate, SetLog, SetSlot, ChangeRun}
+use Rattle.core_views.specs.declared.trace.Command.TheVariants.{Access, ChangeHost, ChangeRun, ClearLog, DeleteSlot, GetLog, Migrate, SetLog, SetSlot, Split}
 use Rattle.core_views.specs.Actors.{is_same}
 use Rattle.core_views.specs.Events.{after, after_all, facts_after, logs_left, stage_copied, stage_read, stage_taken, to_read_or_copy, under_after}
 use Rattle.core_views.specs.Flat.{Facts, Flat, HasChanged, HasTakenNext, HasToCopy, LineUnderWay, Stage, first_flat}
@@ -59,6 +59,7 @@ changes_at z f actor (ChangeRun page host) change works is = refl
 changes_at z f actor (GetLog id) change works is = refl
 changes_at z f actor (ClearLog id first count words) change works is = refl
 changes_at z f actor (Migrate call) change works is = refl
+changes_at z f actor (Split gfn) change works is = refl
 changes_at z f actor command change works is = not_told (change_at_once z command f.slots) (unbarred _ _ works).1
   where
     not_told : (o : Option (Option Refusal)) → option_map refused_or_done o ≡ None → o ≡ None
@@ -96,6 +97,7 @@ takes_log z f (ChangeRun page change) id slot works is logged = absurd (cc is)
 takes_log z f (GetLog i) id slot works is logged = absurd (cc is)
 takes_log z f (ClearLog i first count words) id slot works is logged = absurd (cc is)
 takes_log z f (Migrate call) id slot works is logged = absurd (cc is)
+takes_log z f (Split gfn) id slot works is logged = absurd (cc is)
 takes_log z f (SetSlot i s) id slot works is logged =
     no_log i id f.slots (first_is i id (Some (record { slot = s; logged = is_logged i f.slots })) slot is) (set_anew z i s f.slots works) logged
 takes_log z f (DeleteSlot i) id slot works is logged =

@@ -106,7 +106,10 @@ impl Find {
         ensures begins { self.old.begun ≡ false → Begins result (S.seat s.old).hand.topics.search (S.seat s.new).hand.topics.search }
         ensures searches { self.old.begun ≡ true
             → Searches (is_sought self.old.sought) result (S.seat s.old).hand.topics.search (S.seat s.new).hand.topics.search }
-        ensures others { (S.seat s.new).hand.topics ≡ record (S.seat s.old).hand.topics { search = (S.seat s.new).hand.topics.search } }
+        ensures others { (S.seat s.new).hand.topics ≡ record (S.seat s.old).hand.topics {
+          search = (S.seat s.new).hand.topics.search;
+          row = (S.seat s.new).hand.topics.row;
+        } }
         ensures published { BeginsInPublished self.old note (S.seat s.old) (S.seat s.new) }
         ensures now { SearchesWhereMade self.old note (S.seat s.old) (S.seat s.new) result }
         ensures goes_on { self.new ≡ record { sought = self.old.sought; begun = true } }

@@ -1,4 +1,6 @@
 pub mod access
 pub mod host
+pub mod host_run
 pub mod log
 pub mod slot_change
+pub mod split

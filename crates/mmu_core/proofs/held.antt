@@ -44,3 +44,17 @@ pub mod TopicsKept
 pub mod ClaimGoes
 pub mod Scanned
 pub mod KeptEmpty
+pub mod NextPages
+pub mod NextSeen
+pub mod AimedStays
+pub mod ChangedPages
+pub mod OwnWords
+pub mod OwnRowsKept
+pub mod RowRuns
+pub mod OpenRuns
+pub mod ChangesKept
+pub mod CollectedKept
+pub mod LowRowsKept
+pub mod SlotParts
+pub mod LargeRows
+pub mod CollectedNext

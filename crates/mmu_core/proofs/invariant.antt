@@ -9,3 +9,4 @@ pub mod RestsKept
 pub mod TargetStays
 pub mod QuietHand
 pub mod FormKept
+pub mod NextStays

@@ -8,6 +8,7 @@ pub mod InvalidateNeeds
 pub mod InvalidateKnown
 pub mod ProtectPlaces
 pub mod ProtectKnown
+pub mod RunsAimed
 pub mod SearchKnown
 pub mod SweepKnown
 pub mod SweepFalls

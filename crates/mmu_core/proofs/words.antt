@@ -10,3 +10,4 @@ pub mod PoolBits
 pub mod SlotFields
 pub mod SlotLists
 pub mod SmallSlots
+pub mod RunSpans

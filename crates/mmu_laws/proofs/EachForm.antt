@@ -1,8 +1,9 @@
 -- What is so of the lines of every form: the one place of the laws where it is told by the form. A form of line writes a clause in each of these.
 use Rattle.mmu_laws.proofs.forms.host.HostFlat.{host_goes_on}
+use Rattle.mmu_laws.proofs.forms.host_run.HostRunFlat.{host_run_goes_on}
 use Rattle.std.specs.Prelude.{Bool, List, Option, Some, None, false, true}
 use Rattle.mmu_core.specs.forms.host.HostSteps.{host_part}
-use Rattle.core_views.specs.declared.trace.Command.TheVariants.{ChangeHost, Access}
+use Rattle.core_views.specs.declared.trace.Command.TheVariants.{Access, ChangeHost, ChangeRun, Split}
 use Rattle.std.proofs.Common.{◌≡◌, ◌<◌, ℕ, refl}
 use Rattle.core_views.specs.declared.answer.Refusal.{Refusal}
 use Rattle.core_views.specs.declared.place.Place.{Place}
@@ -27,6 +28,7 @@ use Rattle.mmu_core.specs.forms.log.LogLeft.{log_left_after}
 use Rattle.mmu_core.specs.forms.log.LogOutcomes.{after_log}
 use Rattle.mmu_core.specs.forms.log.LogSteps.{log_first, log_next, log_part, log_reads, slot_asked}
 use Rattle.mmu_core.specs.forms.slot_change.SlotChangeSteps.{slot_change_first, slot_change_part}
+use Rattle.mmu_core.specs.forms.split.SplitSteps.{split_part}
 use Rattle.mmu_core.specs.machine.View.{View, answer_in}
 use Rattle.mmu_core.proofs.invariant.Kept.{MakesAt}
 use Rattle.mmu_core.proofs.machine.Stepping.{IsStep}
@@ -47,7 +49,11 @@ use Rattle.mmu_core.specs.lines.Rests.{IsUnderWay}
 use Rattle.mmu_core.specs.machine.Steps.{delays_at, task_at}
 use Rattle.mmu_laws.proofs.turns.Nearer.{Nearer}
 use Rattle.mmu_laws.proofs.forms.host.HostNearer.{FindsStill, host_nearer}
+use Rattle.mmu_core.specs.forms.host_run.HostRunSteps.{host_run_part}
+use Rattle.mmu_laws.proofs.forms.host_run.HostRunNearer.{host_run_nearer}
 use Rattle.mmu_laws.proofs.forms.slot_change.SlotChangeNearer.{slot_change_nearer}
+use Rattle.mmu_laws.proofs.forms.split.SplitFlat.{split_goes_on}
+use Rattle.mmu_laws.proofs.forms.split.SplitNearer.{split_nearer}
 use Rattle.mmu_core.proofs.lines.KnowsKept.{access_vcpu}
 use Rattle.mmu_core.proofs.forms.log.LogFalls.{log_falls}
 use Rattle.mmu_core.proofs.forms.log.LogMakes.{log_fits}
@@ -69,8 +75,12 @@ step_goes z v a line command (place.SlotChange p) f u S I P part K U C W R =
     slot_change_goes z v a line command f.facts f.past u p K.0 S I P (part (slot_change_part p (v.hand a) command) refl) R
 step_goes z v a line (ChangeHost page change) (place.Host p) f u S I P part K U C W R =
     host_goes_on z v a line page change f.facts f.past u p K S I P C (part (host_part p page change (v.hand a)) refl) R
+step_goes z v a line (ChangeRun page change) (place.HostRun p) f u S I P part K U C W R =
+    host_run_goes_on z v a line page change f.facts f.past u p K S I P (part (host_run_part p page change (v.hand a)) refl) R
 step_goes z v a line command (place.Log p) f u S I P part K U C W R =
     log_goes_on z v a line command f.facts f.past u p S I P (part (log_part p (v.hand a) command) refl) K W R
+step_goes z v a line (Split gfn) (place.Split p) f u S I P part K U C W R =
+    split_goes_on z v a line gfn f.facts f.past u p S (part (split_part p gfn (v.hand a).topics) refl) P R
 step_goes z v a line _ _ f u S I P part K U C W R = absurd S.holds
 
 first_log : (command : Command) (u : LineUnderWay) (r : Option Refusal) (out : Bool) → u.stage ≡ Fresh → LogUnder (log_first r out) command u
@@ -83,10 +93,12 @@ pub first_at : (z : Sizes) (pool : ℕ → ℕ) (y : Sizes) (slots : MemorySlots
     → IsCommandFor z line.actor command → u.stage ≡ Fresh → u.line ≡ line → UnderAt z pool (first_place y slots command) line command t u
 first_at z pool y slots line (Access gfn word op) t u may fresh is = (is, fresh)
 first_at z pool y slots line (ChangeHost page change) t u may fresh is = (is, fresh)
+first_at z pool y slots line (ChangeRun page change) t u may fresh is = (is, fresh)
 first_at z pool y slots line (GetLog id) t u may fresh is =
     (is, first_log (GetLog id) u (read_refusal (GetLog id) slots) (takes_out y.mode (GetLog id)) fresh)
 first_at z pool y slots line (ClearLog id first count words) t u may fresh is =
     let c : Command = ClearLog id first count words in (is, first_log c u (read_refusal c slots) (takes_out y.mode c) fresh)
+first_at z pool y slots line (Split gfn) t u may fresh is = (is, fresh)
 first_at z pool y slots line command t u may fresh is = (is, first_set (change_at_once y command slots))
   where
     first_set : (r : Option (Option Refusal)) → SlotChangeUnder (slot_change_first r) z command u
@@ -121,7 +133,11 @@ form_nearer (place.SlotChange p) command z h v begun may rests K left fits finds
     slot_change_nearer p h command v rests K.1 (first_of_none (part_waits (slot_change_part p h command) h.topics v) false on)
 form_nearer (place.Host p) (ChangeHost page change) z h v begun may rests K left fits finds on =
     host_nearer p page change h v rests K finds (first_of_none (part_waits (host_part p page change h) h.topics v) false on)
+form_nearer (place.HostRun p) (ChangeRun page change) z h v begun may rests K left fits finds on =
+    host_run_nearer p page change h v rests K finds (first_of_none (part_waits (host_run_part p page change h) h.topics v) false on)
 form_nearer (place.Log p) command z h v begun may rests K left fits finds on =
     log_nearer (log_next p command h v) (log_reads p command h v) command h.state.sizes (part_topics (log_part p h command) h.topics v) _
     (log_falls p h command v (left.leaves refl) (left.opens refl) fits rests K (first_of_none (part_waits (log_part p h command) h.topics v) false on))
+form_nearer (place.Split p) (Split gfn) z h v begun may rests K left fits finds on =
+    split_nearer p gfn h v rests K (first_of_none (part_waits (split_part p gfn h.topics) h.topics v) false on)
 form_nearer _ _ z h v begun may rests K left fits finds on = absurd K

@@ -5,6 +5,7 @@ pub mod Notes
 pub mod StepLaws
 pub mod ReleaseLaws
 pub mod KindLaws
+pub mod ChangeLaws
 pub mod LogKinds
 pub mod AllowedWords
 pub mod MayTells
@@ -14,6 +15,10 @@ pub mod PublicationLaws
 pub mod ViewRuns
 pub mod FilledPages
 pub mod PageFillers
+pub mod Series
+pub mod LookSeries
+pub mod ChangeSeries
+pub mod RunFolds
 pub mod FilledRounds
 pub mod FoldedRuns
 pub mod ComputedRuns
@@ -25,8 +30,11 @@ pub mod ExampleLogAllRun
 pub mod ExampleMissesRun
 pub mod ExampleApartRun
 pub mod ExampleLeafRun
+pub mod ExampleSmallRun
+pub mod ExampleHugeRun
 pub mod ExampleEvictRun
 pub mod ExampleMoveRun
 pub mod ExampleOverlapRun
 pub mod ExampleSlotsRun
+pub mod ExampleSplitRun
 pub mod TouchLaws

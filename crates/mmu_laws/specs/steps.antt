@@ -18,8 +18,11 @@ pub mod ExampleLogAll
 pub mod ExampleMisses
 pub mod ExampleApart
 pub mod ExampleLeaf
+pub mod ExampleSmall
+pub mod ExampleHuge
 pub mod ExampleEvict
 pub mod ExampleMove
 pub mod ExampleOverlap
 pub mod ExampleSlots
+pub mod ExampleSplit
 pub mod TouchLaws

@@ -8,12 +8,15 @@ ghost use Rattle.mmu_laws.specs.steps.CanStep.{EachMayStep, EveryMachineStarts};
 ghost use Rattle.mmu_laws.specs.steps.ExampleHost.{ExampleHost};
 ghost use Rattle.mmu_laws.specs.steps.ExampleEvict.{ExampleEvict};
 ghost use Rattle.mmu_laws.specs.steps.ExampleSlots.{ExampleSlots};
+ghost use Rattle.mmu_laws.specs.steps.ExampleSplit.{ExampleSplit};
 ghost use Rattle.mmu_laws.specs.steps.ExampleMove.{ExampleMove};
 ghost use Rattle.mmu_laws.specs.steps.ExampleOverlap.{ExampleOverlap};
 ghost use Rattle.mmu_laws.specs.steps.ExampleLog.{ExampleLog};
 ghost use Rattle.mmu_laws.specs.steps.ExampleLogAll.{ExampleLogAll};
 ghost use Rattle.mmu_laws.specs.steps.ExampleApart.{ExampleApart};
 ghost use Rattle.mmu_laws.specs.steps.ExampleLeaf.{ExampleLeaf};
+ghost use Rattle.mmu_laws.specs.steps.ExampleSmall.{ExampleSmall};
+ghost use Rattle.mmu_laws.specs.steps.ExampleHuge.{ExampleHuge};
 ghost use Rattle.mmu_laws.specs.steps.ExampleMisses.{ExampleMisses};
 ghost use Rattle.mmu_laws.specs.forms.log.ExampleReads.{ExampleReads};
 ghost use Rattle.mmu_laws.specs.forms.log.ExampleOwed.{ExampleOwed};
@@ -160,7 +163,13 @@ pub fn each_delay_has_its_cause()
 /// a clear takes it; and once the log has ended, a write meets the leaf in which the clear has forbidden
 /// writes: its fast fault allows them and marks nothing. And a fault that finds the
 /// lock held waits for it, and goes through while an invalidation of another guest frame is open;
-/// and where two faults come to one absent leaf, one puts it, and the other one begins anew.
+/// and where two faults come to one absent leaf, one puts it, and the other one begins anew. A worker
+/// that is to split a guest frame's large leaf has nothing to do where the frame has no table, nor where
+/// it has a leaf of the lowest level.
+/// Where a small page is to be mapped by itself its leaf is zapped, and its host word stays; and a run with
+/// pages beyond those of its thread is refused in one step. And where a run of 512 pages becomes
+/// one large page each of them is looked at, and changed while the invalidation of the slot's guest
+/// frames is open; to do it again is refused with the first look; and each becomes a small page again.
 pub fn the_steps_can_be_made()
     ensures starts { EveryMachineStarts }
     ensures goes_on { EachMayStep }
@@ -184,6 +193,9 @@ pub fn the_steps_can_be_made()
     ensures misses { ExampleMisses }
     ensures apart { ExampleApart }
     ensures leaf { ExampleLeaf }
+    ensures split { ExampleSplit }
+    ensures small { ExampleSmall }
+    ensures huge { ExampleHuge }
 {}
 
 /// What a step's numbers tell of it: each step that a hand allows is on a word of the
@@ -193,8 +205,11 @@ pub fn the_steps_can_be_made()
 /// exactly where it finds 0; and so has the look at the last virtual processor, of a line that
 /// takes pages out of a dirty log, and it is its answer exactly where this one has no flush to
 /// make (vcpu-requests.rst, `KVM_REQUEST_WAIT`), and the look at the host page that a line is to
-/// change, and it is its answer exactly where this page is part of a large one. Who enters the
-/// guest with a flush asked for has nothing cached after that step; each other step
+/// change, and it is its answer exactly where this page is part of a large one. A look at a page
+/// of a run that a line is to change is its answer exactly where the run is to be one and this page
+/// is part of a large one, or all pages of the run were looked at and can't be mapped as one; its
+/// note is 1, or 0 where the pages of a large one are to be small ones, and then the line goes on.
+/// Who enters the guest with a flush asked for has nothing cached after that step; each other step
 /// leaves at most one more translation (vcpu-requests.rst, KVM_REQ_TLB_FLUSH). The host
 /// word that is put to allow writes or forbid them, to have its page in memory or not, or
 /// at another frame, does so, and tells the same else as the one before it. And each event that a step
@@ -212,7 +227,7 @@ pub fn the_steps_can_be_made()
 /// step that zaps is on the leaf, of whatever level, to which links lead a guest frame of its
 /// actor's own open invalidation. One that changes a host word, whatever it leaves there, is of a
 /// page of its actor's own, while this actor's invalidation of a run with the page is open and
-/// flushed. And one that brings a page in is in a section, of the page that its actor looked at
+/// flushed: the first page of the run that isn't changed yet. And one that brings a page in is in a section, of the page that its actor looked at
 /// and saw absent. A step that gives back the lock which its actor has alone leaves no end of an
 /// invalidation half done, so that number and count change in one holding, and none open that
 /// isn't flushed; and a line leaves nothing to do at the entry that it loaded last. (That its
@@ -344,8 +359,9 @@ pub fn a_fault_alone_goes_through()
 /// waits, none of its faults begins anew, and each step leaves it fewer steps, of
 /// which it has no more than its command allows (an access at most 8,192, one for each
 /// pool page and one for each frame; a slot line 1,024 and one for each word of the
-/// pool's map; a host line 1,024 and one for each word of the map of frames); where it is
-/// answered, all actors rest again, and it is starved only where no page of the pool is
+/// pool's map; a host line of one page 1,024 and one for each word of the map of frames, and
+/// one of a run 1,024, two for each of 262,144 pages and five for each of 2^36 guest frames);
+/// where it is answered, all actors rest again, and it is starved only where no page of the pool is
 /// free, so never where the pool has as many pages as the trace needs at most, and refused
 /// a frame only where none is free. And its steps can be made, up to its answer. Where it
 /// moves a page it takes the lowest frame that no page names (tdp_mmu.c,
@@ -390,8 +406,9 @@ pub fn turns_come_to_an_end()
 /// these steps are at most as many as the line's command allows (`most_steps`), and
 /// while the line is under way, so they are together with those that it has left. For a command of one
 /// page, or one that ends a dirty log, these are at most 8,192, one for each pool page and one for each frame; for
-/// each other one at most 16 times the sum of 512 for each pool page, a page's words and eight for each
-/// host page, one for each frame, and 4,096.
+/// one that changes a run of host pages at most four for each of 262,144 pages and five for each of 2^36 guest
+/// frames; for each other one at most 16 times the sum of 512 for each pool page, a page's words and eight for
+/// each host page, one for each frame, and 4,096.
 pub fn steps_are_bounded()
     ensures bounded { StepsAreBounded }
     ensures counted { StepsAreCounted }

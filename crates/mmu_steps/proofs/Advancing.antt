@@ -1,6 +1,6 @@
 -- What a hand must have for a step, and what its fields are after it.
 use Rattle.std.proofs.Math.Nat.{div-le_self}
-use Rattle.std.proofs.Common.{◌≤◌, ◌≡◌, ◌<◌, ◌^◌, ◌⊎◌, inl, inr, ℕ, length, refl, sym, subst, ap, ◌∙◌, arith}
+use Rattle.std.proofs.Common.{◌≡◌, ◌<◌, ◌^◌, ◌⊎◌, inl, inr, ℕ, length, refl, sym, subst, ap, ◌∙◌, arith}
 use Rattle.std.specs.Prelude.{Bool, true, false, Some, None}
 use Rattle.core_views.specs.declared.kind.Kind.{Kind}
 use Rattle.core_views.specs.declared.place.Place.{Place}
@@ -30,6 +30,7 @@ use Rattle.mmu_core.proofs.machine.Stepping.{is_begun}
 use Rattle.mmu_core.specs.forms.access.Cached.{flushed}
 use Rattle.part_steps.specs.PartBounds.{FrameCountersPart, PartRests}
 use Rattle.part_steps.specs.FrameTopics.{words_moved}
+use Rattle.part_steps.proofs.PageRuns.{change_room, next_room}
 use Rattle.core_views.specs.declared.topics.Frames.{Frames}
 use Rattle.core_views.specs.declared.topics.OwnedPage.{OwnedPage}
 use Rattle.core_views.specs.declared.sizes.Sizes.{Sizes}
@@ -55,10 +56,6 @@ line_rests h k e has = (is_next h k e has).rests
 pub span_small : (gfn : ℕ) (walk : TableWalk) → IsOver gfn walk → walk.prefix < 2 ^ 36
 span_small gfn walk O = let le = div-le_self gfn (level_span walk.level) in omega (arith, O.small, O.span, le)
 
--- The span of the walk's table is a small number.
-abbrev HasSmallSpan : TableWalk → Type 0
-HasSmallSpan walk = 1 ≤ walk.level → walk.prefix < 2 ^ 36
-
 -- A frame has few words, so few of them are filled.
 few_moved : (z : Sizes) (f : Frames) → AreSizes z → FrameCountersPart z f → words_moved f.owned < 2 ^ 32
 few_moved z f sizes few = omega (arith, few.filled, sizes.words.1)
@@ -68,34 +65,36 @@ no_page_room : (t : Topics) → t.owned ≡ None → (o : OwnedPage) → t.owned
 no_page_room t none o is = let e : None ≡ Some o = sym none ∙ is in absurd (cc e)
 
 part_room : (step : PartStep) (h : Held) (note : ℕ) → AreSizes h.state.sizes → FrameCountersPart h.state.sizes h.topics.frames → PartNeeds step h
-    → (needs_line step ≡ true → HasSmallSpan h.topics.walk) → HasRoom (part_task step (own_index h) h.topics note).kind h.topics
-part_room (part.Fill value) h note z few N small = (
+    → (needs_line step ≡ true → PartRests h) → HasRoom (part_task step (own_index h) h.topics note).kind h.topics
+part_room (part.Fill value) h note z few N rests = (
   λ o is. let filled : words_filled h.topics.owned ≡ o.filled = ap words_filled is in omega (arith, filled, N.0.1),
   few_moved h.state.sizes h.topics.frames z few,
 )
-part_room (part.Role value) h note z few N small = (
+part_room (part.Role value) h note z few N rests = (
   λ o is. let filled : words_filled h.topics.owned ≡ o.filled = ap words_filled is in omega (arith, filled, N.0),
   few_moved h.state.sizes h.topics.frames z few,
 )
-part_room part.Slot h note z few N small = λ some. N.1
-part_room part.Claim h note z few N small = (N.1, omega (arith, N.2, z.pool.1))
-part_room (part.Walk gfn) h note z few N small = λ from. span_small gfn h.topics.walk N.0
-part_room (part.Sweep gfn) h note z few N small = small refl
-part_room (part.WalkAnew gfn) h note z few N small = small refl
-part_room (part.Link gfn) h note z few N small = λ from. span_small gfn h.topics.walk N.0.saw.over
-part_room (part.Leaf gfn write) h note z few N small = λ from. span_small gfn h.topics.walk N.0.saw.over
-part_room (part.Fix gfn) h note z few N small = λ from. span_small gfn h.topics.walk N.saw.over
-part_room part.Clear h note z few N small = (no_page_room h.topics N.owns_none, few_moved h.state.sizes h.topics.frames z few)
-part_room part.Frame h note z few N small = (N.1, omega (arith, N.2, z.frames.1))
-part_room (part.Store index) h note z few N small = (no_page_room h.topics N.no_page, few_moved h.state.sizes h.topics.frames z few)
-part_room _ h note z few N small = tt
+part_room part.Slot h note z few N rests = λ some. N.1
+part_room part.Claim h note z few N rests = (N.1, omega (arith, N.2, z.pool.1))
+part_room (part.Walk gfn) h note z few N rests = λ from. span_small gfn h.topics.walk N.0
+part_room (part.Sweep gfn) h note z few N rests = (rests refl).counters.span
+part_room (part.WalkAnew gfn) h note z few N rests = (rests refl).counters.span
+part_room (part.Link gfn) h note z few N rests = λ from. span_small gfn h.topics.walk N.0.saw.over
+part_room (part.Leaf gfn write) h note z few N rests = λ from. span_small gfn h.topics.walk N.0.saw.over
+part_room (part.Fix gfn) h note z few N rests = λ from. span_small gfn h.topics.walk N.saw.over
+part_room part.Clear h note z few N rests = (no_page_room h.topics N.owns_none, few_moved h.state.sizes h.topics.frames z few)
+part_room part.Frame h note z few N rests = (N.1, omega (arith, N.2, z.frames.1))
+part_room (part.Store index) h note z few N rests = (no_page_room h.topics N.no_page, few_moved h.state.sizes h.topics.frames z few)
+part_room (part.Change new_) h note z few N rests = change_room h N.0
+part_room part.ChangeNext h note z few N rests = next_room h (rests refl) N
+part_room _ h note z few N rests = tt
 
 touch_room : (op : Op) (index : ℕ) (t : Topics) → HasRoom (touch_of op index).kind t
 touch_room Read index t = tt
 touch_room _ index t = tt
 
 room_by : (command : Command) (h : Held) (t : Task) → PartRests h → StepAt command h t → HasRoom t.kind h.topics
-room_by command h _ R (Makes step note N) = part_room step h note R.sizes R.counters.frames N (λ e. R.counters.span)
+room_by command h _ R (Makes step note N) = part_room step h note R.sizes R.counters.frames N (λ line. R)
 room_by command h _ R (Touches gfn word op is N) = touch_room op _ h.topics
 
 task_room : (p : Place) (command : Command) (h : Held) → PartRests h → RestsAt p command h → HasRoom (task_at p command h).kind h.topics

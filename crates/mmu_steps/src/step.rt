@@ -23,12 +23,13 @@ use crate::stay::step_access;
 use crate::waits::Waiting;
 use access_twins::{access_note, access_part, flush, touch};
 use core_views::{
-    AccessPlace, Answer, AnsweredLine, Command, Kind, Leaving, Line, LogPlace, Place,
+    AccessPlace, Answer, AnsweredLine, Command, HostRunPlace, Kind, Leaving, Line, LogPlace, Place,
+    SplitPlace,
 };
 use manager_twins::{
-    host_first, host_note, host_outcome, host_part, log_first, log_next, log_note, log_reads,
-    log_step, record_change, slot_change_first, slot_change_note, slot_change_outcome,
-    slot_change_part,
+    host_first, host_note, host_outcome, host_part, host_run_note, host_run_outcome, host_run_part,
+    log_first, log_next, log_note, log_reads, log_step, record_change, slot_change_first,
+    slot_change_note, slot_change_outcome, slot_change_part, split_note, split_outcome, split_part,
 };
 use mmu_core::{LogNext, Outcome};
 use part_steps::{PartStep, Task};
@@ -42,10 +43,12 @@ fn first(hand: &Hand, line: &Line) -> Place
     match &line.command {
         Command::Access { .. } => Place::Access(AccessPlace::Enter { again: false }),
         Command::ChangeHost { .. } => Place::Host(host_first(&line.command)),
+        Command::ChangeRun { .. } => Place::HostRun(HostRunPlace::Look),
         Command::GetLog { id } | Command::ClearLog { id, .. } => {
             let sizes = &hand.progress().sizes;
             Place::Log(log_first(sizes, hand.slots(), &line.command, *id))
         }
+        Command::Split { .. } => Place::Split(SplitPlace::Begin),
         command => {
             let sizes = &hand.progress().sizes;
             Place::SlotChange(slot_change_first(sizes, hand.slots(), command))
@@ -76,7 +79,9 @@ fn note(place: Place, hand: &Hand, line: &Line) -> u64
         (Place::Access(place), Command::Access { .. }) => access_note(place),
         (Place::SlotChange(place), _) => slot_change_note(place, hand),
         (Place::Host(place), Command::ChangeHost { page, .. }) => host_note(place, *page, hand),
+        (Place::HostRun(place), Command::ChangeRun { change, .. }) => host_run_note(place, *change),
         (Place::Log(place), command) => log_note(place, hand, command),
+        (Place::Split(place), Command::Split { .. }) => split_note(place),
         _ => 0,
     }
 }
@@ -186,7 +191,11 @@ pub(crate) fn part_of(place: Place, line: &Line, hand: &Hand) -> Option<PartStep
         (Place::Host(place), Command::ChangeHost { page, change }) => {
             Some(host_part(place, *page, *change, hand))
         }
+        (Place::HostRun(place), Command::ChangeRun { page, change }) => {
+            Some(host_run_part(place, *page, *change, hand))
+        }
         (Place::Log(place), command) => Some(log_step(place, hand, command)),
+        (Place::Split(place), Command::Split { gfn }) => Some(split_part(place, *gfn, hand)),
         _ => Some(PartStep::Seq),
     }
 }
@@ -220,6 +229,7 @@ fn record_step(place: Place, hand: &mut Hand)
 // Where the line stands after the step of a place, which is none of an access and reads no log.
 fn outcome(place: Place, line: &Line, hand: &Hand, found: u64) -> Outcome
     requires part { PartRests hand.now.core }
+    requires line { IsCommandFor hand.now.core.state.sizes line.now.actor line.now.command }
     requires rests { RestsAt place line.now.command hand.now.core }
     requires other { (p : LogPlace) → place ≢ at.Log p }
     requires no_access { (p : AccessPlace) → place ≢ at.Access p }
@@ -230,6 +240,10 @@ fn outcome(place: Place, line: &Line, hand: &Hand, found: u64) -> Outcome
         (Place::Host(place), Command::ChangeHost { page, change }) => {
             host_outcome(place, *page, *change, hand, found)
         }
+        (Place::HostRun(place), Command::ChangeRun { page, change }) => {
+            host_run_outcome(place, *page, *change, hand, found)
+        }
+        (Place::Split(place), Command::Split { gfn }) => split_outcome(place, *gfn, hand, found),
         (Place::Access(_), _) | (Place::Log(_), _) => unreachable!(),
         _ => Outcome::Goes(place),
     }

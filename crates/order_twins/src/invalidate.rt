@@ -66,7 +66,7 @@ pub fn begin_part(place: BeginPlace, target: &Target, topics: &Topics) -> PartSt
     requires come { sweeps place ≡ true → swept_to true topics.now.invalidations.own.start topics.now.walk < 2 ^ 64 }
     ensures { result ≡ begin_part place target.now topics.now }
 {
-    let search = &topics.search;
+    let (search, row) = (&topics.search, &topics.row);
     let own = &topics.invalidations.own;
     match place {
         BeginPlace::Exclude => PartStep::Exclude,
@@ -76,11 +76,11 @@ pub fn begin_part(place: BeginPlace, target: &Target, topics: &Topics) -> PartSt
         BeginPlace::RangeStart => PartStep::RangeStart,
         BeginPlace::RangeEnd => PartStep::RangeEnd,
         BeginPlace::SetStart => PartStep::SetStart {
-            own: target.start(search),
+            own: target.start(search, row),
             gfn: target.range_start(topics),
         },
         BeginPlace::SetEnd => PartStep::SetEnd {
-            own: target.end(search),
+            own: target.end(search, row),
             gfn: target.range_end(topics),
         },
         BeginPlace::SetCount => PartStep::SetCount(topics.invalidations.count + 1),

@@ -1,3 +1,4 @@
 pub mod EntryTopics
 pub mod SetWords
 pub mod FrameWords
+pub mod PageRuns

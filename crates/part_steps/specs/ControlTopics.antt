@@ -5,14 +5,15 @@ use Rattle.core_views.specs.declared.sizes.Sizes.{Sizes}
 use Rattle.core_views.specs.declared.topics.Checked.{Checked}
 use Rattle.core_views.specs.declared.topics.Checked.TheVariants as checked
 use Rattle.core_views.specs.declared.topics.Hold.{Hold}
+use Rattle.core_views.specs.declared.topics.HostRow.{HostRow}
 use Rattle.core_views.specs.declared.topics.Invalidated.{Invalidated}
 use Rattle.core_views.specs.declared.topics.Invalidations.{Invalidations}
 use Rattle.core_views.specs.declared.topics.MapClaim.{MapClaim}
+use Rattle.core_views.specs.declared.topics.PageRun.{PageRun}
 use Rattle.core_views.specs.declared.topics.SlotSearch.{SlotSearch}
 use Rattle.core_views.specs.declared.topics.TableWalk.{TableWalk}
 use Rattle.core_views.specs.declared.topics.Topics.{Topics}
 use Rattle.spte_words.specs.declared.area.Area.TheVariants as area
-use Rattle.part_steps.specs.InvalidationRange.{run_or_none}
 use Rattle.part_steps.specs.StayTopics.{has_lock, is_loose, may_walk, may_search, kept_search}
 use Rattle.part_steps.specs.ControlBits.{frames_begin, is_frame_map, is_pool_map, is_word_of, map_begins}
 
@@ -23,6 +24,10 @@ at_root holds walk v = record walk { level = if holds then 4 else 0; prefix = 0;
 -- Which slot set is published was loaded: a search of it begins, where its page is held.
 abbrev pub at_set : Bool → SlotSearch → ℕ → SlotSearch
 at_set holds search v = record search { set = if holds then Some v else None; id = 0; next = field.Flags; whole = false }
+
+-- It has collected no guest frames of a run yet.
+abbrev pub uncovered : HostRow → HostRow
+uncovered row = record row { start = 0; end = 0 }
 
 -- How far the check has come after a load of the count, of the range's start, of its end, and of the sequence number.
 abbrev pub count_checked : Hold → Checked
@@ -78,25 +83,26 @@ checked_stored word c =
     if is_word_of area.RangeEnd word then end_known c else
     c
 
--- What an actor's own invalidation is of, after a store of an end of the range with this end of its own: from the start on of this host page, if it is of one.
-abbrev pub own_stored : ℕ → ℕ → Option ℕ → Invalidated → Invalidated
-own_stored word bound page own = record {
-  pages = if is_word_of area.RangeStart word then run_or_none page else own.pages;
+-- What an actor's own invalidation is of, after a store of an end of the range with this end of its own: from the start on of these host pages, if it is of
+-- some.
+abbrev pub own_stored : ℕ → ℕ → Option PageRun → Invalidated → Invalidated
+own_stored word bound pages own = record {
+  pages = if is_word_of area.RangeStart word then pages else own.pages;
   start = if is_word_of area.RangeStart word then bound else own.start;
   end = if is_word_of area.RangeEnd word then bound else own.end;
 }
 
 -- A word of the invalidations was stored: where it is their count, the actor's own is open from then on if it rose, and the sequence number is raised for its
 -- own. What was loaded of count and sequence number before either is stored is known no more.
-abbrev pub stored : ℕ → ℕ → Option ℕ → Invalidations → ℕ → Invalidations
-stored word bound page n v = record n {
+abbrev pub stored : ℕ → ℕ → Option PageRun → Invalidations → ℕ → Invalidations
+stored word bound pages n v = record n {
   count = if is_word_of area.Count word then v else n.count;
   start = if is_word_of area.RangeStart word then v else n.start;
   end = if is_word_of area.RangeEnd word then v else n.end;
   seq = if is_word_of area.Seq word then v else n.seq;
   checked = checked_stored word n.checked;
   opened = if is_word_of area.Count word then nat_lt n.count v else n.opened;
-  own = own_stored word bound page n.own;
+  own = own_stored word bound pages n.own;
   raised = if is_word_of area.Count word then false else if is_word_of area.Seq word then true else n.raised;
 }
 
@@ -120,6 +126,7 @@ controlled z word t v = record t {
       if is_word_of area.Slots word then at_set (may_search t.stay t.hold) t.search v else if takes_snapshot word t.hold
       then kept_search false t.search else t.search;
   host = if takes_snapshot word t.hold then None else t.host;
+  row = if is_word_of area.Slots word then uncovered t.row else t.row;
   invalidations = noted word t.hold t.invalidations v;
   claim = at_word (is_pool_map z word) (map_begins z) word t.claim v;
   frames = record t.frames { claim = at_word (is_frame_map z word) (frames_begin z) word t.frames.claim v };

@@ -5,18 +5,19 @@ use Rattle.core_views.specs.declared.topics.Checked.{Checked}
 use Rattle.core_views.specs.declared.topics.Checked.TheVariants as checked
 use Rattle.core_views.specs.declared.topics.Hold.TheVariants.{Exclusive, Loose}
 use Rattle.core_views.specs.declared.topics.Stay.TheVariants.{Outside}
+use Rattle.core_views.specs.declared.topics.PageRun.{PageRun}
 use Rattle.core_views.specs.declared.topics.Topics.{Topics}
 use Rattle.core_views.specs.Held.{Held}
 use Rattle.core_views.specs.HostChanges.{is_own}
 use Rattle.part_steps.specs.declared.invalidations.Target.{Target}
-use Rattle.part_steps.specs.InvalidationRange.{IsAimed, IsOnRun, has_searched, invalidated_by, is_within_range, page_looked, page_of_target, page_aimed}
-use Rattle.part_steps.specs.InvalidationRange.{range_end, range_start, run_or_none, target_end, target_start}
+use Rattle.part_steps.specs.InvalidationRange.{IsAimed, has_searched, invalidated_by, is_within_range, page_looked, run_of_target, run_aimed}
+use Rattle.part_steps.specs.InvalidationRange.{range_end, range_start, target_end, target_start}
+use Rattle.part_steps.specs.PageRuns.{IsOnRun, run_of}
 use Rattle.part_steps.specs.FrameTopics.{is_uncopied}
 use Rattle.part_steps.specs.PartHoldings.{HoldsSet}
-use Rattle.part_steps.specs.StayTopics.{no_flush}
+use Rattle.part_steps.specs.StayTopics.{is_alone, no_flush}
 use Rattle.part_steps.specs.SweepHoldings.{IsSwept}
-use Rattle.spte_words.specs.HostWords.{host_level}
-use Rattle.part_steps.specs.HeldNumbers.{word_looked}
+use Rattle.spte_words.specs.Entries.{level_span}
 
 -- ---- what was loaded of their words
 
@@ -55,7 +56,7 @@ pub record MaySetStart (first gfn : ℕ) (t : Topics) : Type 0 where
   pub target : Target
   pub opening : IsOpening target t
   pub counted : has_counted t.invalidations.checked t.invalidations.count ≡ true
-  pub own_ : first ≡ target_start target t.search
+  pub own_ : first ≡ target_start target t.search t.row
   pub is : gfn ≡ range_start target t
 
 -- And then its end.
@@ -63,9 +64,9 @@ pub record MaySetEnd (end_ gfn : ℕ) (t : Topics) : Type 0 where
   pub target : Target
   pub opening : IsOpening target t
   pub widened : has_widened t.invalidations.checked t.invalidations.count ≡ true
-  pub pages : t.invalidations.own.pages ≡ run_or_none (page_of_target target)
-  pub start : t.invalidations.own.start ≡ target_start target t.search
-  pub own_ : end_ ≡ target_end target t.search
+  pub pages : t.invalidations.own.pages ≡ run_of_target target
+  pub start : t.invalidations.own.start ≡ target_start target t.search t.row
+  pub own_ : end_ ≡ target_end target t.search t.row
   pub is : gfn ≡ range_end target t
 
 -- One more may be counted with the actor's own: its frames lie below 2 ^ 36, the range that is stored has them, no table is held and no virtual processor was
@@ -74,7 +75,7 @@ pub record MayOpen (t : Topics) : Type 0 where
   pub target : Target
   pub opening : IsOpening target t
   pub known : t.invalidations.checked ≡ checked.Range
-  pub own_ : t.invalidations.own ≡ invalidated_by target t.search
+  pub own_ : t.invalidations.own ≡ invalidated_by target t.search t.row
   pub low : t.invalidations.own.end ≤ 2 ^ 36
   pub within : is_within_range t.invalidations.own t.invalidations ≡ true
   pub no_table : t.walk.level ≡ 0
@@ -91,12 +92,12 @@ pub record MayCount (count : ℕ) (t : Topics) : Type 0 where
   pub opens : t.invalidations.opened ≡ false → MayOpen t
   pub closes : t.invalidations.opened ≡ true → t.invalidations.raised ≡ true
 
--- The host page for which an invalidation is opened, if it is for one, is the actor's own, which saw that the host maps it by itself and not as part of a large
--- page (mmu.rst, "Large pages").
-abbrev pub OpensOnSmallPage : Held → Type 0
-OpensOnSmallPage h =
-    h.topics.invalidations.opened ≡ false → (page : ℕ) → page_aimed h.topics ≡ Some page
-    → (is_own h.state.sizes h.state.actor page ≡ true) × (nat_lt 1 (host_level (word_looked h.topics.host)) ≡ false)
+-- The host pages for which an invalidation is opened, if it is for some, are the actor's own. (They are all that the host maps as one with the one that was
+-- looked at: mmu.rst, "Large pages".)
+abbrev pub OpensOnOwnPages : Held → Type 0
+OpensOnOwnPages h =
+    h.topics.invalidations.opened ≡ false → (run : PageRun) (page : ℕ) → run_aimed h.topics ≡ Some run → IsOnRun page (Some run)
+    → is_own h.state.sizes h.state.actor page ≡ true
 
 -- The next virtual processor may be asked for a flush, outside of every section: with an own invalidation open under the lock that the actor has alone, the
 -- first one once no leaf of its frames is left; and with none without the lock.
@@ -110,23 +111,38 @@ pub record MayAsk (index : ℕ) (h : Held) : Type 0 where
 
 -- ---- between begin and end
 
--- A host page may be changed: it is the actor's own, was looked up, and is one that the actor's own open invalidation is of; and each virtual processor was
--- asked for a flush, and awaited.
+-- A host page may be changed: it is the actor's own, was looked up, and is the one that the actor's own open invalidation is of; and each virtual processor was
+-- asked for a flush, and awaited. The actor doesn't have the lock alone.
 pub record MayChange (h : Held) : Type 0 where
   pub looked : is_some h.topics.host ≡ true
   pub own_ : is_own h.state.sizes h.state.actor (page_looked h.topics.host) ≡ true
   pub opened : h.topics.invalidations.opened ≡ true
   pub unraised : h.topics.invalidations.raised ≡ false
-  pub invalid : IsOnRun (page_looked h.topics.host) h.topics.invalidations.own.pages
+  pub invalid : h.topics.invalidations.own.pages ≡ Some (run_of (page_looked h.topics.host))
   pub asked : h.state.sizes.vcpus ≤ h.topics.flush.asked
   pub awaited : h.state.sizes.vcpus ≤ h.topics.flush.awaited
+  pub unlocked : is_alone h.topics.hold ≡ false
+
+-- So may the next page of a run of several that the actor's own open invalidation is of, where not all of them are changed yet.
+pub record MayChangeNext (h : Held) : Type 0 where
+  pub run : PageRun
+  pub is : h.topics.invalidations.own.pages ≡ Some run
+  pub several : 2 ≤ run.level
+  pub left : run.changed < level_span run.level
+  pub opened : h.topics.invalidations.opened ≡ true
+  pub unraised : h.topics.invalidations.raised ≡ false
+  pub asked : h.state.sizes.vcpus ≤ h.topics.flush.asked
+  pub awaited : h.state.sizes.vcpus ≤ h.topics.flush.awaited
+  pub unlocked : is_alone h.topics.hold ≡ false
 
 -- ---- the end
 
--- An actor whose own invalidation is open may raise the sequence number, once, which it has loaded under the lock that it has alone, outside of every section.
+-- An actor whose own invalidation is open may raise the sequence number, once, which it has loaded under the lock that it has alone, outside of every section;
+-- where it is of a run of several pages, all of them are changed.
 pub record MayEndInvalidation (t : Topics) : Type 0 where
   pub alone : t.hold ≡ Exclusive
   pub outside : t.stay ≡ Outside
   pub opened : t.invalidations.opened ≡ true
   pub unraised : t.invalidations.raised ≡ false
   pub loaded : t.invalidations.checked ≡ checked.Seq
+  pub all : (run : PageRun) → t.invalidations.own.pages ≡ Some run → 2 ≤ run.level → run.changed ≡ level_span run.level

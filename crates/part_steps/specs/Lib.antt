@@ -6,6 +6,8 @@ pub mod WalkTopics
 pub mod SweepTopics
 pub mod PageTopics
 pub mod FrameTopics
+pub mod PageRuns
+pub mod PageTasks
 pub mod InvalidationRange
 pub mod ControlBits
 pub mod ControlTopics
@@ -13,6 +15,7 @@ pub mod TopicSteps
 pub mod HeldNumbers
 pub mod EntryWords
 pub mod PartTasks
+pub mod ClaimHoldings
 pub mod PartHoldings
 pub mod SetHoldings
 pub mod RunHoldings

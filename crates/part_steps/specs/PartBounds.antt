@@ -1,18 +1,23 @@
 -- What the steps of the parts may rest on, from the hand alone: bounds.
-use Rattle.std.specs.Prelude.{◌≡◌, ◌+◌, ◌^◌, ◌<◌, ◌≤◌, ℕ, All, Some, None, true, false}
+use Rattle.std.specs.Prelude.{◌≡◌, ◌+◌, ◌/◌, ◌^◌, ◌<◌, ◌≤◌, ℕ, All, Some, None, true, false}
 use Rattle.core_views.specs.declared.topics.Hold.TheVariants.{Owing}
 use Rattle.core_views.specs.declared.place.SlotField.TheVariants.{Flags}
 use Rattle.core_views.specs.declared.topics.HostLook.{HostLook}
+use Rattle.core_views.specs.declared.topics.HostRow.{HostRow}
 use Rattle.core_views.specs.declared.topics.Frames.{Frames}
 use Rattle.core_views.specs.declared.topics.OwnedFrame.{OwnedFrame}
 use Rattle.core_views.specs.declared.topics.OwnedPage.{OwnedPage}
+use Rattle.core_views.specs.declared.topics.PageRun.{PageRun}
 use Rattle.core_views.specs.Held.{Held}
 use Rattle.core_views.specs.declared.cache.Translation.{Translation}
 use Rattle.core_views.specs.declared.sizes.Sizes.{Sizes}
 use Rattle.core_views.specs.declared.topics.Topics.{Topics}
 use Rattle.spte_words.specs.Areas.{words_of_bits}
 use Rattle.core_views.specs.Sizes.{AreSizes, actors_of}
-use Rattle.spte_words.specs.HostWords.{host_frame}
+use Rattle.core_views.specs.HostChanges.{is_own}
+use Rattle.spte_words.specs.Entries.{level_span}
+use Rattle.spte_words.specs.HostWords.{host_frame, host_level}
+use Rattle.part_steps.specs.PageRuns.{IsOnRun, word_seen}
 use Rattle.part_steps.specs.FrameTopics.{word_held, words_moved}
 use Rattle.part_steps.specs.PartTasks.{own_index, table_page}
 use Rattle.part_steps.specs.ControlBits.{has_writer}
@@ -45,9 +50,20 @@ pub record CountersPart (z : Sizes) (t : Topics) : Type 0 where
   pub range : (t.invalidations.start < 2 ^ 64) × (t.invalidations.end < 2 ^ 64)
   pub frames : FrameCountersPart z t.frames
 
+-- The guest frames that a search has collected lie below 2 ^ 36.
+pub record IsLowRow (row : HostRow) : Type 0 where
+  pub start : row.start ≤ 2 ^ 36
+  pub end_ : row.end ≤ 2 ^ 36
+
+-- While the pages of a run are changed they are pages of the machine, at frames of it.
+pub record IsRunOf (z : Sizes) (run : PageRun) : Type 0 where
+  pub most : run.level ≤ 3
+  pub there : (page : ℕ) → IsOnRun page (Some run) → page < z.pages
+  pub frames : (page : ℕ) → IsOnRun page (Some run) → host_frame (word_seen run page) < z.frames
+
 -- What holds of every hand that some world has: its actor is one of the machine's, its pages are pages of the pool, its frame is one of the machine's, its
--- counters stay within what they count, its cache has room for a translation, where it has yet to take itself out of the lock's readers it saw a writer, and
--- outside of a section no mark is owed.
+-- counters stay within what they count, its cache has room for a translation, the pages that the host maps as one with its own are its own, where it has yet to
+-- take itself out of the lock's readers it saw a writer, and outside of a section no mark is owed.
 pub record PartRests (h : Held) : Type 0 where
   pub sizes : AreSizes h.state.sizes
   pub own_place : own_index h < actors_of h.state.sizes
@@ -67,5 +83,10 @@ pub record PartRests (h : Held) : Type 0 where
   pub cache : 1 ≤ h.cached.capacity
   pub levels : All IsAtLeafLevel h.cached.items
   pub looked : (look : HostLook) → h.topics.host ≡ Some look → (look.page < h.state.sizes.pages) × (host_frame look.word < h.state.sizes.frames)
+  pub large : (look : HostLook) → h.topics.host ≡ Some look → is_own h.state.sizes h.state.actor look.page ≡ true → (page : ℕ)
+      → page / level_span (host_level look.word) ≡ look.page / level_span (host_level look.word) → is_own h.state.sizes h.state.actor page ≡ true
+  pub row : IsLowRow h.topics.row
+  pub changing : (run : PageRun) → h.topics.invalidations.opened ≡ true → h.topics.invalidations.raised ≡ false
+      → h.topics.invalidations.own.pages ≡ Some run → 2 ≤ run.level → IsRunOf h.state.sizes run
   pub saw_writer : (word : ℕ) → h.topics.hold ≡ Owing word → has_writer word ≡ true
   pub owes : is_section h.topics.stay ≡ false → h.topics.owed ≡ None

@@ -4,7 +4,6 @@ use Rattle.core_views.specs.declared.actor.Actor.{Actor}
 use Rattle.core_views.specs.declared.actor.Actor.TheVariants.{Vcpu}
 use Rattle.core_views.specs.declared.topics.Hold.{Hold}
 use Rattle.core_views.specs.declared.topics.Hold.TheVariants.{Loose, Shared, Owing, Exclusive}
-use Rattle.core_views.specs.declared.topics.MapClaim.{MapClaim}
 use Rattle.core_views.specs.declared.topics.Stay.TheVariants.{Outside, Guest, Section}
 use Rattle.core_views.specs.declared.topics.Topics.{Topics}
 use Rattle.core_views.specs.Held.{Held}
@@ -17,8 +16,9 @@ use Rattle.part_steps.specs.PartTasks.{own_index, page_owned, word_looked}
 use Rattle.part_steps.specs.FrameHoldings.{MayCopy, MayGiveFrame, MayStore, revises}
 use Rattle.part_steps.specs.PartHoldings.{next_watched, OwnsPage, HasToFill, HasRoleToSet, HoldsSet, IsOver, MayBring, OwnsTable, MayEnter}
 use Rattle.part_steps.specs.PartHoldings.{IsEnd, MapsRun, MayFix, MayLink, MayMark, SawNoWrites}
+pub use Rattle.part_steps.specs.ClaimHoldings.{GoesOnToWord}
 use Rattle.part_steps.specs.SetHoldings.{MayGiveOld, MayPublish}
-use Rattle.part_steps.specs.InvalidationHoldings.{MayAsk, MayChange, MayCount, MayEndInvalidation, MaySetEnd, MaySetStart, OpensOnSmallPage}
+use Rattle.part_steps.specs.InvalidationHoldings.{MayAsk, MayChange, MayChangeNext, MayCount, MayEndInvalidation, MaySetEnd, MaySetStart, OpensOnOwnPages}
 use Rattle.part_steps.specs.SweepHoldings.{MaySweep, MayWalkAnew, MayZap}
 use Rattle.part_steps.specs.LockHoldings.{MayRelease}
 use Rattle.part_steps.specs.LogHoldings.{MayArm, MayProtect, MayReadLog, MayTake}
@@ -36,10 +36,6 @@ counts Loose = false
 counts Shared = true
 counts (Owing word) = true
 counts Exclusive = false
-
--- A claim begins with the first word of its map, and goes on to the next one where it saw 0.
-abbrev pub GoesOnToWord : ℕ → MapClaim → Type 0
-GoesOnToWord word claim = (word ≡ 0) ⊎ ((word ≡ claim.at) × (claim.seen ≡ 0))
 
 -- The step is one of lines alone, in their order: it changes an entry of the tables, is on a word of the dirty log, or is of a publication, of an
 -- invalidation or of a change or move of a host page. No actor makes it that has no line left.
@@ -61,6 +57,8 @@ needs_line (part.Zap gfn) = true
 needs_line (part.Ask index) = true
 needs_line (part.Await index) = true
 needs_line (part.Change new_) = true
+needs_line (part.HostOn page) = true
+needs_line part.ChangeNext = true
 needs_line part.Bring = true
 needs_line (part.FrameMap word) = true
 needs_line part.Frame = true
@@ -104,6 +102,7 @@ PartNeeds (part.Leaf gfn write) h = MayEnter gfn h.topics × MapsRun gfn h.topic
 PartNeeds (part.Fix gfn) h = MayFix gfn h.topics
 PartNeeds part.Mark h = MayMark h.topics
 PartNeeds (part.Host page) h = (page < h.state.sizes.pages) × (is_alone h.topics.hold ≡ false)
+PartNeeds (part.HostOn page) h = (page < h.state.sizes.pages) × (is_alone h.topics.hold ≡ false)
 PartNeeds part.Bring h = MayBring h.topics
 PartNeeds (part.Watch index) h =
     (index < actors_of h.state.sizes) × (index ≢ own_index h) × ((index ≡ next_watched (own_index h) 0) ⊎ (index ≡ next_watched (own_index h) h.topics.watched))
@@ -112,12 +111,13 @@ PartNeeds part.Clear h = MayGiveOld h
 PartNeeds part.GiveOld h = MayGiveOld h
 PartNeeds (part.SetStart first gfn) h = MaySetStart first gfn h.topics × (first < 2 ^ 64) × (gfn < 2 ^ 64)
 PartNeeds (part.SetEnd last gfn) h = MaySetEnd last gfn h.topics × (last < 2 ^ 64) × (gfn < 2 ^ 64)
-PartNeeds (part.SetCount count) h = MayCount count h.topics × OpensOnSmallPage h
+PartNeeds (part.SetCount count) h = MayCount count h.topics × OpensOnOwnPages h
 PartNeeds (part.SetSeq seq) h = MayEndInvalidation h.topics × (seq ≡ h.topics.invalidations.seq + 1)
 PartNeeds (part.Zap gfn) h = MayZap gfn h.topics
 PartNeeds (part.Ask index) h = MayAsk index h
 PartNeeds (part.Await index) h = (index < h.topics.flush.asked) × (index ≡ h.topics.flush.awaited) × (h.topics.stay ≡ Outside)
 PartNeeds (part.Change new_) h = MayChange h × (revises h.state.sizes.words h.topics.frames.owned (word_looked h.topics.host) new_ ≡ true)
+PartNeeds part.ChangeNext h = MayChangeNext h
 PartNeeds (part.FrameMap word) h =
     (h.topics.frames.owned ≡ None) × (word < words_of_bits h.state.sizes.frames) × GoesOnToWord word h.topics.frames.claim
 PartNeeds part.Frame h =

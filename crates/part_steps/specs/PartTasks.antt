@@ -20,6 +20,7 @@ use Rattle.part_steps.specs.declared.part_step.PartStep.TheVariants as part
 pub use Rattle.part_steps.specs.HeldNumbers.{is_below, number_or_none, page_retired, page_owned, role_filled, set_held, word_looked, words_filled}
 pub use Rattle.part_steps.specs.EntryWords.{entry_index, leaf_fixed, leaf_written, link_written, puts_write, table_page}
 pub use Rattle.part_steps.specs.InvalidationRange.{page_looked}
+pub use Rattle.part_steps.specs.PageTasks.{changes_next, looks_on, page_to_change, word_next, word_to_give}
 use Rattle.part_steps.specs.SlotWords.{page_of, slot_index}
 use Rattle.part_steps.specs.Tasks.{kind_of_task, loads, map_of}
 use Rattle.part_steps.specs.FrameTopics.{frame_owned, word_held}
@@ -91,6 +92,7 @@ part_task (part.Leaf gfn write) own t note = entry_task gfn (leaf_written gfn wr
 part_task (part.Fix gfn) own t note = entry_task gfn (leaf_fixed t) t.walk note
 part_task part.Mark own t note = works kind.Mark area.Log (page_owed t / 64) (2 ^ (page_owed t % 64)) note
 part_task (part.Host page) own t note = loads kind.Host area.Host page note
+part_task (part.HostOn page) own t note = looks_on page note
 part_task (part.Watch index) own t note = loads kind.Watch area.State index note
 part_task part.Publish own t note = works kind.Publish area.Slots 0 (page_owned t.owned) note
 part_task part.Clear own t note = works kind.Fill area.Role (page_retired t.retired) 0 note
@@ -104,6 +106,7 @@ part_task (part.Ask index) own t note = works kind.Ask area.State index request_
 part_task (part.Await index) own t note = loads kind.Await area.State index note
 part_task part.Bring own t note = exchanges_host kind.Bring (with_presence true (word_looked t.host)) t note
 part_task (part.Change new_) own t note = exchanges_host kind.Change new_ t note
+part_task part.ChangeNext own t note = changes_next t.invalidations.own.pages note
 part_task (part.FrameMap word) own t note = loads kind.Control area.FrameMap word note
 part_task part.Frame own t note = works kind.Frame area.FrameMap t.frames.claim.at (all_but (2 ^ tried_bit t.frames.claim)) note
 part_task (part.Copy index) own t note = loads kind.Copy area.Content index note

@@ -9,15 +9,17 @@ use Rattle.part_steps.specs.declared.part_step.PartStep.TheVariants as part
 use Rattle.spte_words.specs.Entries.{without_write}
 use Rattle.spte_words.specs.HostWords.{host_frame, with_presence}
 use Rattle.part_steps.specs.FrameTopics.{frame_after, frame_given, frame_tried, word_copied, word_stored}
-use Rattle.part_steps.specs.InvalidationRange.{page_aimed, run_or_none}
-use Rattle.part_steps.specs.PartTasks.{entry_index, leaf_fixed, leaf_written, link_written, page_looked, word_looked}
+use Rattle.part_steps.specs.InvalidationRange.{run_aimed, run_searched}
+use Rattle.part_steps.specs.PageRuns.{covering, looked_on, one_look}
+use Rattle.part_steps.specs.PartTasks.{entry_index, leaf_fixed, leaf_written, link_written, page_looked, word_looked, word_next}
 use Rattle.part_steps.specs.StayTopics.{begun, flush_kept, has_lock, is_loose, kept_search, let_go, may_search, may_walk, unchecked}
 use Rattle.part_steps.specs.SweepTopics.{at_top, gone_up}
 use Rattle.part_steps.specs.WalkTopics.{gone_down, owed_after, still_owned, swapped, walked}
 use Rattle.part_steps.specs.PageTopics.{claimed, filled_more, given_back, published, searched, tried}
 use Rattle.part_steps.specs.ControlTopics.{at_root, at_set, count_checked, end_known, range_checked}
 use Rattle.part_steps.specs.ControlBits.{has_to_flush, has_writer, in_section}
-use Rattle.part_steps.specs.ControlTopics.{seq_checked, start_checked, start_known}
+use Rattle.part_steps.specs.ControlTopics.{seq_checked, start_checked, start_known, uncovered}
+use Rattle.part_steps.specs.TopicSteps.{run_changed}
 
 -- The sequence number was loaded: without the lock it is the snapshot, with which a look-up begins; else the check's last word.
 abbrev pub sequenced : Bool → Topics → ℕ → Topics
@@ -41,12 +43,14 @@ exchanged won index new_ t v = record t {
 
 -- The host word that was looked up was to be exchanged for a new one, and v was found there.
 abbrev pub exchanged_host : ℕ → Topics → ℕ → Topics
-exchanged_host new_ t v = record t { host = Some (record { page = page_looked t.host; word = if v == word_looked t.host then new_ else v }) }
+exchanged_host new_ t v =
+    record t { host = Some (record { page = page_looked t.host; word = if v == word_looked t.host then new_ else v }); row = one_look }
 
 -- And where the page was moved with it, its old frame is owned, which nobody was watched since.
 abbrev pub changed_host : ℕ → Topics → ℕ → Topics
 changed_host new_ t v = record t {
   host = Some (record { page = page_looked t.host; word = if v == word_looked t.host then new_ else v });
+  row = one_look;
   watched = 0;
   frames = record t.frames { owned = frame_after (v == word_looked t.host) (host_frame (word_looked t.host)) t.frames.owned };
 }
@@ -68,8 +72,11 @@ part_topics part.Claim t v = record t { owned = claimed t.walk t.claim v; claim 
 part_topics (part.Fill value) t v = record t { owned = filled_more t.owned v }
 part_topics (part.Role value) t v = record t { owned = filled_more t.owned v }
 part_topics part.Give t v = given_back t
-part_topics part.Slots t v = record t { search = at_set (may_search t.stay t.hold) t.search v }
-part_topics part.Slot t v = record t { search = if is_some t.search.set then searched t.search v else t.search }
+part_topics part.Slots t v = record t { search = at_set (may_search t.stay t.hold) t.search v; row = uncovered t.row }
+part_topics part.Slot t v = record t {
+  search = if is_some t.search.set then searched t.search v else t.search;
+  row = if is_some t.search.set then covering (run_searched t) (searched t.search v) t.row else t.row;
+}
 part_topics part.Seq t v = sequenced (is_loose t.hold) t v
 part_topics part.Count t v = record t { invalidations = record t.invalidations { count = v; checked = count_checked t.hold } }
 part_topics part.RangeStart t v = record t { invalidations = record t.invalidations { start = v; checked = start_checked t.invalidations.checked } }
@@ -82,7 +89,8 @@ part_topics (part.Link gfn) t v = exchanged (v == t.walk.entry) (entry_index gfn
 part_topics (part.Leaf gfn write) t v = exchanged (v == t.walk.entry) (entry_index gfn t.walk.level) (leaf_written gfn write t) t v
 part_topics (part.Fix gfn) t v = exchanged (v == t.walk.entry) (entry_index gfn t.walk.level) (leaf_fixed t) t v
 part_topics part.Mark t v = record t { owed = None }
-part_topics (part.Host page) t v = record t { host = Some (record { page = page; word = v }) }
+part_topics (part.Host page) t v = record t { host = Some (record { page = page; word = v }); row = one_look }
+part_topics (part.HostOn page) t v = record t { row = looked_on t.host t.row page v }
 part_topics (part.Watch index) t v = record t { watched = index + (if in_section v then 0 else 1) }
 part_topics part.Publish t v = published t v
 part_topics part.Clear t v = record t { owned = filled_more t.owned v }
@@ -92,7 +100,7 @@ part_topics (part.SetStart first gfn) t v =
       invalidations = record t.invalidations {
         start = v;
         checked = start_known t.invalidations.checked;
-        own = record { pages = run_or_none (page_aimed t); start = first; end = t.invalidations.own.end };
+        own = record { pages = run_aimed t; start = first; end = t.invalidations.own.end };
       };
     }
 part_topics (part.SetEnd last gfn) t v =
@@ -111,6 +119,7 @@ part_topics (part.Ask index) t v = record t { flush = record t.flush { asked = i
 part_topics (part.Await index) t v = record t { flush = record t.flush { awaited = index + (if has_to_flush v then 0 else 1) } }
 part_topics part.Bring t v = exchanged_host (with_presence true (word_looked t.host)) t v
 part_topics (part.Change new_) t v = changed_host new_ t v
+part_topics part.ChangeNext t v = run_changed (v == word_next t.invalidations.own.pages) t
 part_topics (part.FrameMap word) t v = record t { frames = record t.frames { claim = record { at = word + (if v == 0 then 1 else 0); seen = v } } }
 part_topics part.Frame t v = record t { frames = frame_tried t.frames v }
 part_topics (part.Copy index) t v = record t { frames = record t.frames { owned = word_copied t.frames.owned v } }

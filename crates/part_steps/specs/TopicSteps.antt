@@ -6,6 +6,7 @@ use Rattle.core_views.specs.declared.kind.StepKind.TheVariants as kind
 use Rattle.core_views.specs.declared.sizes.Sizes.{Sizes}
 use Rattle.core_views.specs.declared.topics.Hold.TheVariants.{Shared, Owing, Exclusive}
 use Rattle.core_views.specs.declared.topics.OwnedPage.{OwnedPage}
+use Rattle.core_views.specs.declared.topics.PageRun.{PageRun}
 use Rattle.core_views.specs.declared.topics.Stay.TheVariants.{Outside, Guest, Section}
 use Rattle.core_views.specs.declared.topics.Topics.{Topics}
 use Rattle.core_views.specs.Kinds.{kind_named}
@@ -14,7 +15,8 @@ use Rattle.spte_words.specs.Areas.{number_of, place}
 use Rattle.spte_words.specs.Entries.{without_write}
 use Rattle.spte_words.specs.HostWords.{host_frame}
 use Rattle.part_steps.specs.Tasks.{map_of}
-use Rattle.part_steps.specs.InvalidationRange.{page_aimed}
+use Rattle.part_steps.specs.InvalidationRange.{run_aimed, run_searched}
+use Rattle.part_steps.specs.PageRuns.{changed_more, covering, is_several, looked_on, one_look}
 use Rattle.part_steps.specs.SweepTopics.{walk_on}
 use Rattle.part_steps.specs.StayTopics.{unchecked, begun, flush_kept, let_go}
 use Rattle.part_steps.specs.WalkTopics.{gone_down, is_in_table, owed_after, walked, swapped, still_owned}
@@ -37,17 +39,35 @@ pool_begins z = place (map_of z) area.Pool 0
 abbrev pub index_in_page : Sizes → ℕ → ℕ
 index_in_page z word = (word - pool_begins z) % 512
 
+-- A host page was looked at: for itself, or, with a number, after those in a row with it.
+abbrev pub host_looked : Sizes → Kind → Topics → ℕ → Topics
+host_looked z k t v = record t {
+  host = if k.new == 0 then Some (record { page = k.word - host_begins z; word = v }) else t.host;
+  row = if k.new == 0 then one_look else looked_on t.host t.row (k.word - host_begins z) v;
+}
+
 -- A host word was to be exchanged: it was seen as it is now.
 abbrev pub host_exchanged : Sizes → Kind → Topics → ℕ → Topics
-host_exchanged z k t v = record t { host = Some (record { page = k.word - host_begins z; word = if v == k.old then k.new else v }) }
+host_exchanged z k t v = record t { host = Some (record { page = k.word - host_begins z; word = if v == k.old then k.new else v }); row = one_look }
 
 -- Where it was won, the old frame of a page that was moved is owned, which nobody was watched since.
-abbrev pub host_changed : Sizes → Kind → Topics → ℕ → Topics
-host_changed z k t v = record t {
+abbrev pub page_changed : Sizes → Kind → Topics → ℕ → Topics
+page_changed z k t v = record t {
   host = Some (record { page = k.word - host_begins z; word = if v == k.old then k.new else v });
+  row = one_look;
   watched = 0;
   frames = record t.frames { owned = frame_after (v == k.old) (host_frame k.old) t.frames.owned };
 }
+
+-- Or it was the word of a page of a run, of which one more is changed: what was seen of its pages is no more.
+abbrev pub run_changed : Bool → Topics → Topics
+run_changed won t = record t {
+  host = None;
+  invalidations = record t.invalidations { own = record t.invalidations.own { pages = changed_more won t.invalidations.own.pages } };
+}
+
+abbrev pub host_changed : Sizes → Kind → Topics → ℕ → Topics
+host_changed z k t v = if is_several t.invalidations.own.pages then run_changed (v == k.old) t else page_changed z k t v
 
 -- A word was filled: of the frame that is owned, or of the page.
 abbrev pub word_filled : Bool → Topics → ℕ → Topics
@@ -64,8 +84,11 @@ topics_by kind.Begin z k t v = begun Section t
 topics_by kind.End z k t v = begun Outside t
 topics_by kind.Walk z k t v = record t { walk = if is_in_table t.walk then walked (walk_on t) (index_in_page z k.word) v else t.walk }
 topics_by kind.Control z k t v = controlled z k.word t v
-topics_by kind.Slot z k t v = record t { search = if is_some t.search.set then searched t.search v else t.search }
-topics_by kind.Host z k t v = record t { host = Some (record { page = k.word - host_begins z; word = v }) }
+topics_by kind.Slot z k t v = record t {
+  search = if is_some t.search.set then searched t.search v else t.search;
+  row = if is_some t.search.set then covering (run_searched t) (searched t.search v) t.row else t.row;
+}
+topics_by kind.Host z k t v = host_looked z k t v
 topics_by kind.Share z k t v = record t { hold = if has_writer v then Owing v else Shared; invalidations = unchecked t.invalidations }
 topics_by kind.Unshare z k t v = let_go t
 topics_by kind.Exclude z k t v =
@@ -74,7 +97,7 @@ topics_by kind.Release z k t v = let_go t
 topics_by kind.Claim z k t v = record t { owned = claimed t.walk t.claim v; claim = tried t.claim v }
 topics_by kind.Fill z k t v = word_filled (is_content z k.word) t v
 topics_by kind.Give z k t v = given_back t
-topics_by kind.Set z k t v = record t { invalidations = stored k.word k.old (page_aimed t) t.invalidations v }
+topics_by kind.Set z k t v = record t { invalidations = stored k.word k.old (run_aimed t) t.invalidations v }
 topics_by kind.Zap z k t v = record t { walk = if is_in_table t.walk then gone_down None t.walk (index_in_page z k.word) 0 else t.walk }
 topics_by kind.Ask z k t v = record t { flush = record t.flush { asked = (k.word - number_of area.State) + 1 } }
 topics_by kind.Await z k t v = record t { flush = record t.flush { awaited = (k.word - number_of area.State) + (if has_to_flush v then 0 else 1) } }
@@ -104,12 +127,14 @@ topics_by kind.Arm z k t v = record t { next_log_word = (k.word - log_begins z) 
 unfoldable pub topics_after : Sizes → Kind → Topics → ℕ → Topics
 topics_after z k t v = topics_by (kind_named k.code) z k t v
 
--- What is counted has room for one more: the words of an owned page and of an owned frame, the slots of a set, the words of a map, the spans of a table.
+-- What is counted has room for one more: the words of an owned page and of an owned frame, the slots of a set, the words of a map, the changed pages of a run,
+-- the spans of a table.
 abbrev pub HasRoom : StepKind → Topics → Type 0
 HasRoom kind.Fill t = ((o : OwnedPage) → t.owned ≡ Some o → o.filled < 513) × (words_moved t.frames.owned < 2 ^ 32)
 HasRoom kind.Slot t = is_some t.search.set ≡ true → t.search.id ≤ 31
 HasRoom kind.Claim t = (0 < t.claim.seen) × (t.claim.at < 2 ^ 32)
 HasRoom kind.Frame t = (0 < t.frames.claim.seen) × (t.frames.claim.at < 2 ^ 32)
+HasRoom kind.Change t = (run : PageRun) → t.invalidations.own.pages ≡ Some run → run.changed < 2 ^ 32
 HasRoom kind.Walk t = 1 ≤ t.walk.level → t.walk.prefix < 2 ^ 36
 HasRoom kind.Swap t = 1 ≤ t.walk.level → t.walk.prefix < 2 ^ 36
 HasRoom _ t = Unit {0}

@@ -4,13 +4,15 @@ ghost use Rattle.std.specs.Prelude.{◌≡◌, ◌<◌, ◌+◌, ◌^◌};
 ghost use Rattle.part_steps.specs.InvalidationRange.{HasSmallSlot, IsSmall, end_with, gfn_behind, has_found, has_searched};
 ghost use Rattle.part_steps.specs.InvalidationRange.{range_end, range_start, start_with, target_end, target_start};
 
-use core_views::{Invalidations, SLOTS, Slot, SlotSearch, Topics};
+use core_views::{HostRow, Invalidations, PageRun, SLOTS, Slot, SlotSearch, Topics};
 
 /// What a line invalidates: guest frames that are to be zapped and flushed before it goes on.
 #[derive(Clone, Copy, Drop)]
 pub enum Target {
     /// The guest frame that a slot gives to this host page, which is to change.
     Page(u64),
+    /// Those that slots give to the pages of this run of several, which are to change.
+    Run(PageRun),
     /// The guest frames of this slot, which is to be moved or deleted.
     Slot(Slot),
 }
@@ -37,32 +39,35 @@ impl Target {
     {
         let found = match self {
             Target::Page(page) => has_found(*page, search),
+            Target::Run(_) => false,
             Target::Slot(slot) => slot.pages == 1 && has_found(slot.host, search),
         };
         found || search.id == SLOTS
     }
 
-    /// The first one of its guest frames; 0 where no slot has the host page.
-    pub fn start(&self, search: &SlotSearch) -> u64
+    /// The first one of its guest frames; 0 where no slot has one of its pages.
+    pub fn start(&self, search: &SlotSearch, row: &HostRow) -> u64
         requires slot { HasSmallSlot search.now }
-        ensures { result ≡ target_start self.now search.now }
+        ensures { result ≡ target_start self.now search.now row.now }
     {
         match self {
             Target::Page(page) if has_found(*page, search) => gfn_behind(*page, &search.slot),
             Target::Page(_) => 0,
+            Target::Run(_) => row.start,
             Target::Slot(slot) => slot.base,
         }
     }
 
-    /// The guest frame after the last of them; 0 where no slot has the host page.
-    pub fn end(&self, search: &SlotSearch) -> u64
+    /// The guest frame after the last of them; 0 where no slot has one of its pages.
+    pub fn end(&self, search: &SlotSearch, row: &HostRow) -> u64
         requires small { IsSmall self.now }
         requires slot { HasSmallSlot search.now }
-        ensures { result ≡ target_end self.now search.now }
+        ensures { result ≡ target_end self.now search.now row.now }
     {
         match self {
             Target::Page(page) if has_found(*page, search) => gfn_behind(*page, &search.slot) + 1,
             Target::Page(_) => 0,
+            Target::Run(_) => row.end,
             Target::Slot(slot) => slot.base + slot.pages,
         }
     }
@@ -73,8 +78,12 @@ impl Target {
         requires slot { HasSmallSlot topics.now.search }
         ensures { result ≡ range_start self.now topics.now }
     {
-        let search = &topics.search;
-        start_with(self.start(search), self.end(search), &topics.invalidations)
+        let (search, row) = (&topics.search, &topics.row);
+        start_with(
+            self.start(search, row),
+            self.end(search, row),
+            &topics.invalidations,
+        )
     }
 
     /// The guest frame after its last one.
@@ -83,8 +92,12 @@ impl Target {
         requires slot { HasSmallSlot topics.now.search }
         ensures { result ≡ range_end self.now topics.now }
     {
-        let search = &topics.search;
-        end_with(self.start(search), self.end(search), &topics.invalidations)
+        let (search, row) = (&topics.search, &topics.row);
+        end_with(
+            self.start(search, row),
+            self.end(search, row),
+            &topics.invalidations,
+        )
     }
 }
 

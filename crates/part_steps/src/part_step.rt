@@ -63,6 +63,8 @@ pub enum PartStep {
     Mark,
     /// Loads the host word of this page.
     Host(u64),
+    /// Loads the host word of this page, which comes after those in a row that were looked at.
+    HostOn(u64),
     /// Loads the state word of the actor at this place.
     Watch(u64),
     /// Publishes the slot set in the page that it owns.
@@ -90,6 +92,8 @@ pub enum PartStep {
     Bring,
     /// Exchanges the host word that was looked up for this one.
     Change(u64),
+    /// Exchanges the word of the next page of the run that its invalidation is of.
+    ChangeNext,
     /// Loads this word of the map of frames.
     FrameMap(u64),
     /// Tries to take the lowest free frame of those seen there.

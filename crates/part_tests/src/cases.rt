@@ -150,6 +150,7 @@ pub fn actor_named(name: &str) -> Option<Actor> {
         "h0" => Some(Actor::Host(0)),
         "h1" => Some(Actor::Host(1)),
         "vm" => Some(Actor::Manager),
+        "w0" => Some(Actor::Worker(0)),
         _ => None,
     }
 }

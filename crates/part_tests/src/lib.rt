@@ -58,6 +58,8 @@ mod show_tests;
 #[cfg(test)]
 mod slot_line_tests;
 #[cfg(test)]
+mod split_line_tests;
+#[cfg(test)]
 mod table_tests;
 #[cfg(test)]
 mod tlb_tests;

@@ -62,6 +62,7 @@ pub fn needs_line(step: PartStep) -> bool
         PartStep::SetStart { .. } | PartStep::SetEnd { .. } => true,
         PartStep::SetCount(_) | PartStep::SetSeq(_) => true,
         PartStep::Ask(_) | PartStep::Await(_) | PartStep::Change(_) | PartStep::Bring => true,
+        PartStep::HostOn(_) | PartStep::ChangeNext => true,
         PartStep::FrameMap(_) | PartStep::Frame | PartStep::GiveFrame => true,
         PartStep::Copy(_) | PartStep::Store(_) => true,
         PartStep::Take { .. } | PartStep::Protect(_) => true,

@@ -3,11 +3,12 @@
 ghost use Rattle.std.specs.Prelude.{◌≡◌, ◌≢◌, ◌≤◌, ◌<◌, ◌^◌, ◌/◌, ◌%◌, ℕ, true, Some, is_some};
 ghost use Rattle.core_views.specs.declared.kind.StepKind.TheVariants as StepKind;
 ghost use Rattle.core_views.specs.declared.topics.OwnedPage.{OwnedPage};
+ghost use Rattle.core_views.specs.declared.topics.PageRun.{PageRun};
 ghost use Rattle.spte_words.specs.declared.area.Area.TheVariants as Area;
 ghost use Rattle.spte_words.specs.Areas.{IsWordMap, pool_index, size_of};
 ghost use Rattle.part_steps.specs.PartBounds.{PartRests};
 ghost use Rattle.part_steps.specs.PartTasks.{all_but, entry_index, entry_task, leaf_fixed, leaf_written, own_index};
-ghost use Rattle.part_steps.specs.PartTasks.{page_owed, page_owned, page_retired};
+ghost use Rattle.part_steps.specs.PartTasks.{changes_next, page_owed, page_owned, page_retired, page_to_change};
 ghost use Rattle.part_steps.specs.PartTasks.{exchanges_host, part_kind, part_task, set_held, stores_bound, table_page, word_looked, words_filled, works};
 ghost use Rattle.part_steps.specs.PartSteps.{PartNeeds};
 ghost use Rattle.part_steps.specs.SlotWords.{slot_index};
@@ -23,14 +24,15 @@ ghost use Rattle.part_steps.specs.declared.part_step.PartStep.TheVariants.{Enter
 use crate::slot_words::{leaf_of, page_of, slot_word};
 use crate::task::kind_of;
 use core_views::{
-    HostLook, Kind, MapClaim, OwnedFrame, OwnedPage, SlotSearch, StepKind, TableWalk, Topics,
+    HostLook, Kind, MapClaim, OwnedFrame, OwnedPage, PageRun, SlotSearch, StepKind, TableWalk,
+    Topics,
 };
 use hands::Hand;
 use part_steps::{PartStep, Task, map_of};
 use spte_words::{Area, HostWord, Spte, WRITE, WordMap};
 use topic_twins::{
     GUEST_BITS, REQUEST_BIT, SECTION_BIT, WRITER, begin_anew, entry_index, frame_owned, go_up,
-    tried_bit, word_held,
+    page_next, tried_bit, word_given, word_held, word_seen,
 };
 
 // An operation that writes, or works with, this number.
@@ -353,6 +355,27 @@ fn exchange_host(kind: StepKind, topics: &Topics, new: u64, note: u64) -> Task
     }
 }
 
+// Exchanges the word of the next page of the run of several that is changed. (Few steps do: kept
+// out of the way of the others.)
+#[inline(never)]
+fn change_next(pages: Option<PageRun>, note: u64) -> Task
+    requires some { is_some pages ≡ true }
+    requires run { (run : PageRun) → pages ≡ Some run → (2 ≤ run.level) × (run.level ≤ 3) × (run.first < 2 ^ 32) × (run.word < 2 ^ 52) }
+    requires page { page_to_change pages < 2 ^ 32 }
+    ensures { result ≡ changes_next pages note }
+{
+    let Some(run) = &pages else { unreachable!() };
+    let page = page_next(run);
+    Task {
+        kind: StepKind::Change,
+        area: Area::Host,
+        index: page,
+        expected: word_seen(run, page),
+        written: word_given(run, page),
+        may_end: note,
+    }
+}
+
 // Stores an end of the range of open invalidations, into which this end of the own one went.
 fn store_bound(area: Area, own: u64, gfn: u64, note: u64) -> Task
     ensures { result ≡ stores_bound area own gfn note }
@@ -464,6 +487,7 @@ pub fn part_task(hand: &Hand, step: PartStep, note: u64) -> Task
         PartStep::Fix(gfn) => enter(map, &topics.walk, gfn, fixed(topics), note),
         PartStep::Mark => mark(topics, note),
         PartStep::Host(page) => Task::load(StepKind::Host, Area::Host, page, note),
+        PartStep::HostOn(page) => work(StepKind::Host, Area::Host, page, 1, note),
         PartStep::Watch(index) => Task::load(StepKind::Watch, Area::State, index, note),
         PartStep::Publish => publish(topics.owned, note),
         PartStep::Clear | PartStep::GiveOld => drop_old(step, map, topics.retired, note),
@@ -476,6 +500,7 @@ pub fn part_task(hand: &Hand, step: PartStep, note: u64) -> Task
         PartStep::Await(index) => Task::load(StepKind::Await, Area::State, index, note),
         PartStep::Bring => exchange_host(StepKind::Bring, topics, word_brought(topics.host), note),
         PartStep::Change(new) => exchange_host(StepKind::Change, topics, new, note),
+        PartStep::ChangeNext => change_next(topics.invalidations.own.pages, note),
         PartStep::FrameMap(word) => Task::load(StepKind::Control, Area::FrameMap, word, note),
         PartStep::Frame => claim_frame(&topics.frames.claim, note),
         PartStep::Copy(index) => Task::load(StepKind::Copy, Area::Content, index, note),

@@ -101,7 +101,7 @@ fn slot_after(slots: &SlotSet, command: &Command, here: u64) -> Option<MemorySlo
         Command::DeleteSlot { id } => slot_after_deletion(slots, *id, here),
         Command::SetLog { id, on } => slot_after_log(slots, *id, *on, here),
         Command::Access { .. } | Command::ChangeHost { .. } => slots.get(here),
-        Command::ChangeRun { .. } => slots.get(here),
+        Command::ChangeRun { .. } | Command::Split { .. } => slots.get(here),
         Command::GetLog { .. } | Command::ClearLog { .. } | Command::Migrate { .. } => slots.get(
             here,
         ),

@@ -6,6 +6,7 @@ use Rattle.core_views.specs.declared.place.BeginPlace.TheVariants as begins
 use Rattle.core_views.specs.declared.place.EndPlace.{EndPlace}
 use Rattle.core_views.specs.declared.place.EndPlace.TheVariants as ends
 use Rattle.core_views.specs.declared.place.HostPlace.TheVariants.{Begin, End}
+use Rattle.core_views.specs.declared.place.HostRunPlace.TheVariants as run_place
 use Rattle.core_views.specs.declared.place.Place.{Place}
 use Rattle.core_views.specs.declared.place.Place.TheVariants as place
 use Rattle.core_views.specs.declared.place.SlotChangePlace.TheVariants as change
@@ -34,6 +35,7 @@ use Rattle.step_seats.specs.declared.turn.Turn.TheVariants.{More, Wait, Done}
 -- where in the begin of an invalidation a line at this place stands, if it does
 abbrev pub begin_at : Place → Option BeginPlace
 begin_at (place.Host (Begin p)) = Some p
+begin_at (place.HostRun (run_place.Begin p)) = Some p
 begin_at (place.SlotChange (change.Begin p)) = Some p
 begin_at _ = None
 
@@ -85,6 +87,7 @@ TurnsBegin job turn note before after = (p : BeginPlace) → begin_at before.han
 
 abbrev pub end_at : Place → Option EndPlace
 end_at (place.Host (End p)) = Some p
+end_at (place.HostRun (run_place.End p)) = Some p
 end_at (place.SlotChange (change.End p)) = Some p
 end_at _ = None
 

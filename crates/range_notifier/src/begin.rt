@@ -8,7 +8,9 @@ ghost use Rattle.range_notifier.specs.Notifying.{BeginsNext, NeverWaits, IsInBeg
 ghost use Rattle.step_seats.specs.Moves.{KeepsSeat};
 ghost use Rattle.step_seats.specs.PartTurns.{MadeTelling, MakesPart};
 
-use core_views::{BeginPlace, HostPlace, Place, Seen, Slot, SlotChangePlace};
+use core_views::{
+    BeginPlace, HostPlace, HostRunPlace, PageRun, Place, Seen, Slot, SlotChangePlace,
+};
 use invalidate_seq::{Open, OpenStage};
 use memslots::{Find, Sought};
 use mmu_lock::{exclude, release};
@@ -31,6 +33,7 @@ fn place_of(hand: &Hand) -> Option<BeginPlace>
 {
     match hand.progress().place {
         Place::Host(HostPlace::Begin(place)) => Some(place),
+        Place::HostRun(HostRunPlace::Begin(place)) => Some(place),
         Place::SlotChange(SlotChangePlace::Begin(place)) => Some(place),
         _ => None,
     }
@@ -57,6 +60,15 @@ impl BeginJob {
         }
     }
 
+    /// The begin of the invalidation of this run of several host pages.
+    pub fn of_run(run: PageRun) -> BeginJob
+        ensures { result ≡ record { target = aim.Run run } }
+    {
+        BeginJob {
+            target: Target::Run(run),
+        }
+    }
+
     /// The begin of the invalidation of this slot's guest frames.
     pub fn of_slot(slot: Slot) -> BeginJob
         ensures { result ≡ record { target = aim.Slot slot } }
@@ -75,6 +87,7 @@ impl BeginJob {
     {
         let page = match self.target {
             Target::Page(page) => page,
+            Target::Run(run) => run.first,
             Target::Slot(slot) => slot.host,
         };
         let mut find = Find {
@@ -92,8 +105,9 @@ impl BeginJob {
         ensures keeps { KeepsSeat (S.seat s.old) (S.seat s.new) (S.frame s.old) (S.frame s.new) }
     {
         part_rests(s.hand());
-        let search = &s.hand().topics().search;
-        let (first, end) = (self.target.start(search), self.target.end(search));
+        let topics = s.hand().topics();
+        let (search, row) = (&topics.search, &topics.row);
+        let (first, end) = (self.target.start(search, row), self.target.end(search, row));
         let mut open = Open { first, end, stage };
         let _ = open.turn(s, note);
     }

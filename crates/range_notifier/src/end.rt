@@ -4,7 +4,7 @@ ghost use Rattle.range_notifier.specs.Notifying.{EndsNext, IsInEnd, TurnsEnd, en
 ghost use Rattle.step_seats.specs.Moves.{KeepsSeat};
 ghost use Rattle.step_seats.specs.PartTurns.{MadeTelling, MakesPart};
 
-use core_views::{EndPlace, HostPlace, Place, Seen, SlotChangePlace};
+use core_views::{EndPlace, HostPlace, HostRunPlace, Place, Seen, SlotChangePlace};
 use invalidate_seq::{Shut, ShutStage};
 use mmu_lock::{exclude, release};
 use step_seats::{Hand, Stepper, Turn};
@@ -20,6 +20,7 @@ fn place_of(hand: &Hand) -> Option<EndPlace>
 {
     match hand.progress().place {
         Place::Host(HostPlace::End(place)) => Some(place),
+        Place::HostRun(HostRunPlace::End(place)) => Some(place),
         Place::SlotChange(SlotChangePlace::End(place)) => Some(place),
         _ => None,
     }

@@ -7,7 +7,7 @@ use Rattle.core_views.specs.declared.answer.Answer.TheVariants.{Bits, Copied, Do
 use Rattle.core_views.specs.declared.trace.MigrationCall.{MigrationCall}
 use Rattle.core_views.specs.declared.sizes.Sizes.{Sizes}
 use Rattle.core_views.specs.declared.trace.Command.{Command}
-use Rattle.core_views.specs.declared.trace.Command.TheVariants.{Access, ChangeHost, ClearLog, DeleteSlot, GetLog, Migrate, SetLog, SetSlot, ChangeRun}
+use Rattle.core_views.specs.declared.trace.Command.TheVariants.{Access, ChangeHost, ChangeRun, ClearLog, DeleteSlot, GetLog, Migrate, SetLog, SetSlot, Split}
 use Rattle.core_views.specs.Events.{logs_left}
 use Rattle.core_views.specs.Flat.{Facts, Fresh, HasArmed, HasChanged, HasLeft, HasTaken, HasToCopy, HasToRead}
 use Rattle.core_views.specs.Flat.{LineUnderWay, Notes, Stage}
@@ -28,6 +28,7 @@ not_done z f actor (ChangeRun page change) notes answer is may = absurd (cc is)
 not_done z f actor (GetLog id) notes answer is may = absurd (cc is)
 not_done z f actor (ClearLog id first count words) notes answer is may = absurd (cc is)
 not_done z f actor (Migrate call) notes answer is may = absurd (cc is)
+not_done z f actor (Split gfn) notes answer is may = absurd (cc is)
 not_done z f actor command notes Starved is may = λ e. cc e
 not_done z f actor command notes Mmio is may = λ e. cc e
 not_done z f actor command notes HostFault is may = λ e. cc e
@@ -59,6 +60,7 @@ reads_none (Access gfn word op) id is reads = cc is
 reads_none (ChangeHost page change) id is reads = cc is
 reads_none (ChangeRun page change) id is reads = cc is
 reads_none (Migrate call) id is reads = cc is
+reads_none (Split gfn) id is reads = cc is
 
 -- Nor is it one of a migration.
 pub no_call : (command other : Command) (call : MigrationCall) → command ≡ other → other ≡ Migrate call → changes_slot command ≡ true → ⊥

@@ -7,7 +7,7 @@ use Rattle.std.specs.Option.{option_map}
 use Rattle.core_views.specs.declared.answer.Refusal.{Refusal}
 use Rattle.core_views.specs.declared.answer.Refusal.TheVariants.{BadId, TooLarge, Missing, Logged, NoLog, Resize, Fixed, Overlap, HostOverlap}
 use Rattle.core_views.specs.declared.memory_slot.MemorySlot.{MemorySlot}
-use Rattle.core_views.specs.declared.trace.Command.TheVariants.{Access, ChangeHost, ClearLog, DeleteSlot, GetLog, Migrate, SetLog, SetSlot, ChangeRun}
+use Rattle.core_views.specs.declared.trace.Command.TheVariants.{Access, ChangeHost, ChangeRun, ClearLog, DeleteSlot, GetLog, Migrate, SetLog, SetSlot, Split}
 use Rattle.core_views.specs.declared.trace.Slot.{Slot}
 use Rattle.core_views.specs.Refusals.{is_logged, log_refusal, moves_logged, set_refusal}
 use Rattle.core_views.specs.SlotCommands.{at_once, is_unchanged, slots_after, stays}
@@ -141,6 +141,7 @@ done_changes_none z (Access gfn word op) slots told i = absurd (cc told)
 done_changes_none z (ChangeHost page change) slots told i = absurd (cc told)
 done_changes_none z (ChangeRun page change) slots told i = absurd (cc told)
 done_changes_none z (Migrate call) slots told i = absurd (cc told)
+done_changes_none z (Split gfn) slots told i = absurd (cc told)
 done_changes_none z (SetSlot id slot) slots told i = by (cases_eq i id)
   where
     D : (set_refusal z.pages id slot slots ≡ None) × (is_unchanged (SetSlot id slot) slots ≡ true)
@@ -172,6 +173,7 @@ work_changes_one z (Access gfn word op) slots is told = absurd (cc is)
 work_changes_one z (ChangeHost page change) slots is told = absurd (cc is)
 work_changes_one z (ChangeRun page change) slots is told = absurd (cc is)
 work_changes_one z (Migrate call) slots is told = absurd (cc is)
+work_changes_one z (Split gfn) slots is told = absurd (cc is)
 work_changes_one z (SetSlot id slot) slots is told = (id, λ e. by (slot_of_id id slots) refl (sym (set_here id new_one slots) ∙ e))
   where
     W : (set_refusal z.pages id slot slots ≡ None) × (is_unchanged (SetSlot id slot) slots ≡ false)

@@ -25,6 +25,10 @@ with_writes allowed word = host_word (host_frame word) (host_present word) allow
 abbrev pub with_frame : ℕ → ℕ → ℕ
 with_frame frame word = host_word frame (host_present word) (host_allows_write word) (host_level word)
 
+-- the host word of the same page, by a mapping of another level
+abbrev pub with_level : ℕ → ℕ → ℕ
+with_level level word = host_word (host_frame word) (host_present word) (host_allows_write word) level
+
 -- the host word of the same page, which is present, or isn't
 abbrev pub with_presence : Bool → ℕ → ℕ
 with_presence present word = host_word (host_frame word) present (host_allows_write word) (host_level word)

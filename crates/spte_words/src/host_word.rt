@@ -1,5 +1,5 @@
 ghost use Rattle.std.specs.Prelude.{◌≡◌, ℕ, ◌<◌, ◌^◌};
-ghost use Rattle.spte_words.specs.HostWords.{host_word, host_present, host_allows_write, host_level, host_frame, with_frame, with_writes, with_presence};
+ghost use Rattle.spte_words.specs.HostWords.{host_word, host_present, host_allows_write, host_level, host_frame, with_frame, with_level, with_writes, with_presence};
 
 use crate::bit::bit_if;
 use std::marker::Model;
@@ -102,6 +102,15 @@ impl HostWord {
         ensures { result ≡ with_frame frame self }
     {
         HostWord::new(frame, self.is_present(), self.is_writable(), self.level())
+    }
+
+    /// The same, by a mapping of this level (1 to 3).
+    #[tactic(auto, unfolding(crate::specs::HostWords::host_frame))]
+    pub fn with_level(self, level: u8) -> HostWord
+        requires { level < 4 }
+        ensures { result ≡ with_level level self }
+    {
+        HostWord::new(self.frame(), self.is_present(), self.is_writable(), level)
     }
 
     /// The same, with the page in memory, or not.

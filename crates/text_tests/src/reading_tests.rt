@@ -128,6 +128,12 @@ const TABLE: &str = "\
 2 word|&v0 protect 5;\n\
 2 word|&h0 allow;\n\
 2 word|&h0 allow 1 2;\n\
+2 word|&w0 split;\n\
+2 word|&w0 split 1 2;\n\
+2 word|&w0 Split 1;\n\
+2 word|&v0 split 1;\n\
+2 word|&w4 split 1;\n\
+2 word|&w00 split 1;\n\
 2 word|&h0 Allow 5;\n\
 2 word|&h4 allow 5;\n\
 2 word|&h01 allow 5;\n\
@@ -178,6 +184,8 @@ const TABLE: &str = "\
 2 actor|<1 frames 1 words 1=h1 allow 5;\n\
 2 actor|&h2 allow 5;\n\
 2 actor|&h3 allow z;\n\
+2 actor|&w0 split 5;\n\
+2 actor|tdp 1 vcpus 1 workers 1 pages 1 frames 1 words 1=w1 split z;\n\
 2 number|&h0 allow 05;\n\
 2 number|&h0 protect 05;\n\
 2 actor|&h2 protect 5;\n\
@@ -186,6 +194,9 @@ const TABLE: &str = "\
 2 number|&h0 evict 05;\n\
 2 actor|&h2 evict 5;\n\
 2 number|&h0 allow z;\n\
+2 number|tdp 1 vcpus 1 workers 1 pages 1 frames 1 words 1=w0 split z;\n\
+2 number|tdp 1 vcpus 1 workers 1 pages 1 frames 1 words 1=w0 split 05;\n\
+2 number|tdp 1 vcpus 1 workers 1 pages 1 frames 1 words 1=w0 split 68719476736;\n\
 2 number|&h1 allow 0xFF;\n\
 2 number|&h0 allow 18446744073709551616;\n\
 2 number|&v0 read 01;\n\
@@ -308,6 +319,8 @@ const TABLE: &str = "\
 2 lines|&h1 evict 0xffffffffffffffff;h0 evict 0;\n\
 1 lines|&h1 allow 0;\n\
 1 lines|&h0 allow 18446744073709551615;\n\
+1 lines|tdp 1 vcpus 1 workers 1 pages 1 frames 1 words 1=w0 split 68719476735;\n\
+2 lines|tdp 1 vcpus 1 workers 4 pages 1 frames 1 words 1=w3 split 0;w0 split 0xfffffffff;\n\
 1 lines|<32 frames 32 words 1 pool 4 cache 1 manual 0 hosts 0 8 16 24;h3 allow 0xff;\n\
 2 lines|&h1 allow 5;h1 allow 5;\n\
 1 lines|&#;v0 read 0;;\n\
@@ -437,7 +450,47 @@ pub fn told(alloc: Global, case: &str) -> Result<String, Fail> {
 
 #[test]
 fn answers_the_table(rt: HostRuntime) -> Result<(), Fail> {
-    expect_all(&rt, rt.alloc(), Way::Reads, TABLE, 298)
+    expect_all(&rt, rt.alloc(), Way::Reads, TABLE, 311)
+}
+
+// Lines that map a run of host pages as one large page, or its pages by themselves.
+const RUNS: &str = "\
+1 lines|&h0 huge 5 2;
+1 lines|&h1 huge 0x5 0x3;
+1 lines|&h0 huge 18446744073709551615 0x0000000000000002;
+2 lines|&h0 small 0;h1 small 0xffffffffffffffff;
+2 word|&h0 huge;
+2 word|&h0 huge 5;
+2 word|&h0 huge 5 ;
+2 word|&h0 huge 5 2 2;
+2 word|&h0 huge  5 2;
+2 word|&h0 Huge 5 2;
+2 word|&h0 small;
+2 word|&h0 small 5 6;
+2 word|&h0 smalls 5;
+2 word|&v0 huge 5 2;
+2 word|&vm huge z z;
+2 word|&w0 small 5;
+2 word|&h4 huge z 9;
+2 actor|&h2 huge 5 2;
+2 actor|&h3 huge z 4;
+2 actor|&h2 small z;
+2 number|&h0 huge 05 2;
+2 number|&h0 huge 18446744073709551616 2;
+2 number|&h0 huge 5 0;
+2 number|&h0 huge 5 1;
+2 number|&h0 huge 5 4;
+2 number|&h0 huge 5 258;
+2 number|&h0 huge 5 0x4;
+2 number|&h0 huge 5 02;
+2 number|&h0 huge 5 z;
+2 number|&h0 small 05;
+2 number|&h0 small 18446744073709551616;
+";
+
+#[test]
+fn reads_lines_of_runs(rt: HostRuntime) -> Result<(), Fail> {
+    expect_all(&rt, rt.alloc(), Way::Reads, RUNS, 31)
 }
 
 // Lines that get a dirty log, or clear it. The long ones have 65,534 bytes, 65,536, and two more.
@@ -617,6 +670,7 @@ fn command_text(alloc: Global, command: &Command) -> Result<String, AllocError> 
             RunChange::Huge(level) => format!(in alloc; "huge {page} {level}"),
             RunChange::Small => format!(in alloc; "small {page}"),
         },
+        Command::Split { gfn } => format!(in alloc; "split {gfn}"),
         Command::SetLog { id, on } => format!(in alloc; "log {id} {on}"),
         Command::GetLog { id } => format!(in alloc; "get {id}"),
         Command::Migrate { call } => format!(in alloc; "migrate {call:?}"),
@@ -671,8 +725,9 @@ fn read_text(alloc: Global, case: &str) -> Result<String, Fail> {
     }
 }
 
-const TRACE: &str =
-    "&%v1 read 0x12018;v0 write 8 0xff;;# c;v0 add 0 18446744073709551615;h1 allow 0x2a;h0 evict 7;h1 move 9;vm logon 0x20;vm logoff 5;";
+const TRACE: &str = "\
+&%v1 read 0x12018;v0 write 8 0xff;;# c;v0 add 0 18446744073709551615;h1 allow 0x2a;h0 evict 7;h1 move 9;vm logon 0x20;vm logoff 5;\
+h1 huge 0x200 0x3;h0 small 9;h0 huge 5 2;";
 
 // What is kept of it.
 const KEPT: &str = "\
@@ -686,6 +741,9 @@ const KEPT: &str = "\
 10 h1 move 9
 11 vm log 32 true
 12 vm log 5 false
+13 h1 huge 512 3
+14 h0 small 9
+15 h0 huge 5 2
 ";
 
 #[test]

@@ -1,10 +1,12 @@
 //! What a line invalidates, and the range of guest frames of the open invalidations (KVM's
 //! kvm_main.c, `kvm_mmu_invalidate_range_add`).
-ghost use Rattle.std.specs.Prelude.{◌≡◌};
+ghost use Rattle.std.specs.Prelude.{◌≡◌, ◌≤◌, Some};
+ghost use Rattle.core_views.specs.declared.topics.PageRun.{PageRun};
 ghost use Rattle.part_steps.specs.InvalidationRange.{has_found, has_found_looked};
-ghost use Rattle.part_steps.specs.InvalidationRange.{page_aimed, page_looked, page_of_look, run_or_none};
+ghost use Rattle.part_steps.specs.InvalidationRange.{page_looked, run_aimed, run_of_look};
 
-use core_views::{HostLook, PageRun, Topics};
+use crate::page_runs::{is_single, run_looked};
+use core_views::{HostLook, HostRow, PageRun, Topics};
 use part_steps::has_found;
 
 // The host page that was looked at last.
@@ -17,37 +19,29 @@ pub(crate) fn page_looked(host: Option<HostLook>) -> u64
     }
 }
 
-// The same, if one was.
-fn page_of_look(host: Option<HostLook>) -> Option<u64>
-    ensures { result ≡ page_of_look host }
+// The run of its page, if one was, by what was seen of the pages in a row with it.
+fn run_of_look(host: Option<HostLook>, row: &HostRow) -> Option<PageRun>
+    ensures is { result ≡ run_of_look host row.now }
+    ensures to { (run : PageRun) → result ≡ Some run → run.level ≤ 3 }
 {
-    Some(host?.page)
+    Some(run_looked(host?, row))
 }
 
-// The host page that the actor may change, if it may change one.
-pub(crate) fn page_aimed(topics: &Topics) -> Option<u64>
-    ensures { result ≡ page_aimed topics.now }
+/// The run of host pages that the actor may change, if it may change one.
+pub fn run_aimed(topics: &Topics) -> Option<PageRun>
+    ensures is { result ≡ run_aimed topics.now }
+    ensures to { (run : PageRun) → result ≡ Some run → run.level ≤ 3 }
 {
     if topics.owned.is_some() {
         None
     } else {
-        page_of_look(topics.host)
+        run_of_look(topics.host, &topics.row)
     }
 }
 
-// The run that is this one page, if there is one.
-pub(crate) fn run_or_none(page: Option<u64>) -> Option<PageRun>
-    ensures { result ≡ run_or_none page }
-{
-    Some(PageRun {
-        first: page?,
-        level: 1,
-    })
-}
-
-// Whether the search has found the slot with this page.
+/// Whether the search has found the slot with the one page that the actor may change.
 pub fn has_found_looked(topics: &Topics) -> bool
     ensures { result ≡ has_found_looked topics.now }
 {
-    page_aimed(topics).is_some() && has_found(page_looked(topics.host), &topics.search)
+    is_single(run_aimed(topics)) && has_found(page_looked(topics.host), &topics.search)
 }

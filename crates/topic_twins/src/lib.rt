@@ -5,6 +5,7 @@
 mod control_words;
 mod frames;
 mod invalidations;
+mod page_runs;
 mod spans;
 mod sweep;
 mod topics;
@@ -13,7 +14,11 @@ pub use control_words::{
     GUEST_BITS, REQUEST_BIT, SECTION_BIT, WRITER, has_to_flush, has_writer, in_section,
 };
 pub use frames::{frame_owned, word_held, words_moved};
-pub use invalidations::has_found_looked;
+pub use invalidations::{has_found_looked, run_aimed};
+pub use page_runs::{
+    is_row, is_several, level_looked, looked_on, one_look, page_next, run_looked, word_given,
+    word_next, word_seen,
+};
 pub use spans::{entry_index, span_of};
 pub use sweep::{
     begin_anew, go_up, has_entry, is_done, is_sweeping, sweep_on, swept_to, walks_anew,

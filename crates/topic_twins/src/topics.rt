@@ -4,7 +4,8 @@ ghost use Rattle.core_views.specs.declared.topics.OwnedPage.{OwnedPage};
 ghost use Rattle.core_views.specs.Kinds.{kind_named};
 ghost use Rattle.core_views.specs.Sizes.{AreSizes};
 ghost use Rattle.core_views.specs.declared.place.SlotField.TheVariants.{Flags};
-ghost use Rattle.core_views.specs.declared.kind.StepKind.TheVariants.{Walk, Swap};
+ghost use Rattle.core_views.specs.declared.kind.StepKind.TheVariants.{Change, Walk, Swap};
+ghost use Rattle.core_views.specs.declared.topics.PageRun.{PageRun};
 ghost use Rattle.spte_words.specs.Areas.{number_of};
 ghost use Rattle.spte_words.specs.Entries.{word_below};
 ghost use Rattle.spte_words.specs.declared.area.Area.TheVariants as Area;
@@ -14,16 +15,19 @@ ghost use Rattle.part_steps.specs.WalkTopics.{gone_down, is_in_table, owed_after
 ghost use Rattle.part_steps.specs.PageTopics.{claimed, filled_more, is_won, published, searched, tried, tried_bit};
 ghost use Rattle.part_steps.specs.ControlTopics.{at_word, checked_after, controlled, count_checked, end_known, noted, range_checked, seq_checked};
 ghost use Rattle.part_steps.specs.ControlTopics.{start_checked, start_known, stored, takes_snapshot};
+ghost use Rattle.part_steps.specs.InvalidationRange.{run_aimed, run_searched};
+ghost use Rattle.part_steps.specs.PageRuns.{covering, looked_on};
 ghost use Rattle.part_steps.specs.SweepTopics.{walk_on};
-ghost use Rattle.part_steps.specs.TopicSteps.{HasRoom, host_begins, host_changed, index_in_page, log_begins, topics_after};
+ghost use Rattle.part_steps.specs.TopicSteps.{HasRoom, host_begins, host_changed, host_looked, index_in_page, log_begins, run_changed, topics_after};
 
 use crate::control_words::{has_lock, has_to_flush, has_writer, in_section, is_word_of};
 use crate::frames::{claim_frame, copy_word, give_frame, move_frame, store_word};
-use crate::invalidations::{page_aimed, run_or_none};
+use crate::invalidations::run_aimed;
+use crate::page_runs::{change_more, cover, is_several, looked_on, one_look};
 use crate::sweep::{begin_anew, go_up, is_sweeping, walks_anew};
 use core_views::{
-    Checked, Flush, Hold, HostLook, Invalidations, Kind, MapClaim, OwnedPage, Sizes, SlotField,
-    SlotSearch, Stay, StepKind, TableWalk, Topics,
+    Checked, Flush, Hold, HostLook, Invalidations, Kind, MapClaim, OwnedPage, PageRun, Sizes,
+    SlotField, SlotSearch, Stay, StepKind, TableWalk, Topics,
 };
 use part_steps::map_of;
 use spte_words::{Area, ENTRIES, HostWord, SlotFlags, Spte, SpteKind};
@@ -401,10 +405,10 @@ fn end_known(checked: Checked) -> Checked
     }
 }
 
-// A word of the invalidations was stored, with this end of the own one, which is of this host
-// page, if it is of one.
-fn store(word: u32, own: u64, page: Option<u64>, invalidations: &mut Invalidations, written: u64)
-    ensures { invalidations.new ≡ stored word own page invalidations.old written }
+// A word of the invalidations was stored, with this end of the own one, which is of this run of
+// host pages, if it is of one.
+fn store(word: u32, own: u64, run: Option<PageRun>, invalidations: &mut Invalidations, written: u64)
+    ensures { invalidations.new ≡ stored word own run invalidations.old written }
 {
     if is_word_of(Area::Count, word) {
         invalidations.opened = invalidations.count < written;
@@ -414,7 +418,7 @@ fn store(word: u32, own: u64, page: Option<u64>, invalidations: &mut Invalidatio
     } else if is_word_of(Area::RangeStart, word) {
         invalidations.start = written;
         invalidations.checked = start_known(invalidations.checked);
-        invalidations.own.pages = run_or_none(page);
+        invalidations.own.pages = run;
         invalidations.own.start = own;
     } else if is_word_of(Area::RangeEnd, word) {
         invalidations.end = written;
@@ -455,14 +459,21 @@ fn log_index(sizes: &Sizes, word: u32) -> u64
     word.saturating_sub(map_of(sizes).word_of(Area::Log, 0)) as u64
 }
 
+// The page of a host word.
+fn host_page(sizes: &Sizes, word: u32) -> u64
+    requires { AreSizes sizes.now }
+    ensures { result ≡ word - host_begins sizes.now }
+{
+    word.saturating_sub(map_of(sizes).word_of(Area::Host, 0)) as u64
+}
+
 // A host word was to be exchanged.
 fn exchange_host(sizes: &Sizes, kind: Kind, found: u64) -> HostLook
     requires { AreSizes sizes.now }
     ensures { result ≡ record { page = kind.word - host_begins sizes.now; word = if found == kind.old then kind.new else found } }
 {
-    let begins = map_of(sizes).word_of(Area::Host, 0);
     HostLook {
-        page: kind.word.saturating_sub(begins) as u64,
+        page: host_page(sizes, kind.word),
         word: if found == kind.old { kind.new } else { found },
     }
 }
@@ -510,6 +521,8 @@ fn control(sizes: &Sizes, word: u32, topics: &mut Topics, found: u64)
         topics.search.id = 0;
         topics.search.next = SlotField::Flags;
         topics.search.whole = false;
+        topics.row.start = 0;
+        topics.row.end = 0;
     }
     if is_word_of(Area::Pause, word) {
         topics.pause = found;
@@ -531,12 +544,78 @@ fn is_content(sizes: &Sizes, word: u32) -> bool
     word >= map_of(sizes).word_of(Area::Content, 0)
 }
 
+// A host page was looked at after those in a row with it. (Few steps are of such a page: kept out
+// of the way of the others.)
+#[inline(never)]
+fn look_on(sizes: &Sizes, word: u32, topics: &mut Topics, found: u64)
+    requires { AreSizes sizes.now }
+    ensures { topics.new ≡ record topics.old { row = looked_on topics.old.host topics.old.row (word - host_begins sizes.now) found } }
+{
+    topics.row = looked_on(topics.host, &topics.row, host_page(sizes, word), found);
+}
+
+// A host page was looked at: for itself, or after those in a row with it.
+fn look_at_host(sizes: &Sizes, kind: Kind, topics: &mut Topics, found: u64)
+    requires { AreSizes sizes.now }
+    ensures { topics.new ≡ host_looked sizes.now kind topics.old found }
+{
+    if kind.new != 0 {
+        look_on(sizes, kind.word, topics, found);
+        return;
+    }
+    topics.host = Some(HostLook {
+        page: host_page(sizes, kind.word),
+        word: found,
+    });
+    topics.row = one_look();
+}
+
+// Who searches the slots under the lock alone collects the guest frames of the run that it aims
+// at. (Few searches are such: kept out of the way of the others.)
+#[inline(never)]
+fn cover_aimed(topics: &mut Topics)
+    ensures { topics.new ≡ record topics.old { row = covering (run_aimed topics.old) topics.old.search topics.old.row } }
+{
+    let run = run_aimed(topics);
+    cover(run, &topics.search, &mut topics.row);
+}
+
+// The next word of a search was loaded.
+#[inline(always)]
+fn load_slot(topics: &mut Topics, found: u64)
+    requires { topics.old.search.id ≤ 31 }
+    ensures search { topics.new.search ≡ searched topics.old.search found }
+    ensures all { topics.new ≡ record topics.old { search = topics.new.search; row = covering (run_searched topics.old) topics.new.search topics.old.row } }
+{
+    search(&mut topics.search, found);
+    if topics.hold == Hold::Exclusive {
+        cover_aimed(topics);
+    }
+}
+
+// The word of a page of the run that the own invalidation is of was to be exchanged.
+fn change_run(won: bool, topics: &mut Topics)
+    requires { (run : PageRun) → topics.old.invalidations.own.pages ≡ Some run → run.changed < 2 ^ 32 }
+    ensures { topics.new ≡ run_changed won topics.old }
+{
+    topics.host = None;
+    if let Some(run) = &mut topics.invalidations.own.pages {
+        change_more(won, run);
+    }
+}
+
 // A host word was to be exchanged by a line that changes the page.
 fn change_host(sizes: &Sizes, kind: Kind, topics: &mut Topics, found: u64)
-    requires { AreSizes sizes.now }
+    requires sizes { AreSizes sizes.now }
+    requires room { HasRoom Change topics.old }
     ensures { topics.new ≡ host_changed sizes.now kind topics.old found }
 {
+    if is_several(topics.invalidations.own.pages) {
+        change_run(found == kind.old, topics);
+        return;
+    }
     topics.host = Some(exchange_host(sizes, kind, found));
+    topics.row = one_look();
     topics.watched = 0;
     let old = HostWord::from_word(kind.old).frame();
     move_frame(found == kind.old, old, &mut topics.frames.owned);
@@ -560,16 +639,10 @@ pub fn step_topics(sizes: &Sizes, kind: Kind, topics: &mut Topics, found: u64)
         StepKind::Control => control(sizes, kind.word, topics, found),
         StepKind::Slot => {
             if topics.search.set.is_some() {
-                search(&mut topics.search, found);
+                load_slot(topics, found);
             }
         }
-        StepKind::Host => {
-            let begins = map_of(sizes).word_of(Area::Host, 0);
-            topics.host = Some(HostLook {
-                page: kind.word.saturating_sub(begins) as u64,
-                word: found,
-            });
-        }
+        StepKind::Host => look_at_host(sizes, kind, topics, found),
         StepKind::Share => {
             topics.invalidations.checked = Checked::Nothing;
             topics.hold = if has_writer(found) {
@@ -603,8 +676,8 @@ pub fn step_topics(sizes: &Sizes, kind: Kind, topics: &mut Topics, found: u64)
         }
         StepKind::Publish => publish(topics, found),
         StepKind::Set => {
-            let page = page_aimed(topics);
-            store(kind.word, kind.old, page, &mut topics.invalidations, found);
+            let run = run_aimed(topics);
+            store(kind.word, kind.old, run, &mut topics.invalidations, found);
         }
         StepKind::Zap => leave_entry(sizes, kind.word, &mut topics.walk, 0),
         StepKind::Protect => {
@@ -615,7 +688,10 @@ pub fn step_topics(sizes: &Sizes, kind: Kind, topics: &mut Topics, found: u64)
         StepKind::Await => {
             topics.flush.awaited = state_index(kind.word) + if has_to_flush(found) { 0 } else { 1 };
         }
-        StepKind::Bring => topics.host = Some(exchange_host(sizes, kind, found)),
+        StepKind::Bring => {
+            topics.host = Some(exchange_host(sizes, kind, found));
+            topics.row = one_look();
+        }
         StepKind::Change => change_host(sizes, kind, topics, found),
         StepKind::Copy => copy_word(&mut topics.frames.owned, found),
         StepKind::Frame => {

@@ -11,8 +11,8 @@ use Rattle.core_views.specs.declared.trace.Command.TheVariants.{Access}
 use Rattle.core_views.specs.declared.trace.Op.{Op}
 use Rattle.core_views.specs.declared.trace.Op.TheVariants.{Read, Write, Add}
 use Rattle.core_views.specs.declared.trace.Header.{Header}
-use Rattle.trace_reader.specs.Operands.{◌>>=◌, address, number, vcpu}
-use Rattle.trace_reader.specs.Forms.{Said, read_form, write_form, add_form, by_command, by_form}
+use Rattle.trace_reader.specs.Operands.{◌>>=◌, Said, address, number, vcpu}
+use Rattle.trace_reader.specs.Forms.{read_form, write_form, add_form, by_command, by_form}
 use Rattle.trace_reader.specs.Grammar.{AreCommandWords, AreWords, IsAccessForm, IsActor, IsCommandForm, Spells}
 use Rattle.trace_reader.proofs.Judged.{AreTwo, IsOne, IsPairSaid, Judged, Tells, judged, named_why, none}
 use Rattle.trace_reader.proofs.Operands.{IsNumber, address_found, address_number, address_spelled, bound, number_found, number_number, number_spelled}

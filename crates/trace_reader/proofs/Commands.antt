@@ -1,23 +1,27 @@
 -- The forms of an actor's line, each with one clause or one row in each lemma: what every line says is read, and only that,
 -- and why it is refused.
-use Rattle.std.proofs.Common.{◌≡◌, inl, inr, ℕ, List, [], ◌∷◌, Bool, true, false, Ok, refl}
+use Rattle.std.proofs.Common.{◌≡◌, inl, inr, ℕ, List, [], ◌∷◌, true, false, Ok, refl}
 use Rattle.std.specs.Prelude.{codes}
 use Rattle.std.specs.Str.{bytes_eq}
 use Rattle.core_views.specs.Text.{actor_name}
 use Rattle.core_views.specs.Sizes.{sizes_of}
 use Rattle.core_views.specs.Traces.{HasActor, IsCommandOf, IsHeader}
 use Rattle.core_views.specs.declared.actor.Actor.{Actor}
-use Rattle.core_views.specs.declared.actor.Actor.TheVariants.{Vcpu, Host, Manager}
+use Rattle.core_views.specs.declared.actor.Actor.TheVariants.{Vcpu, Host, Manager, Worker}
 use Rattle.core_views.specs.declared.trace.Command.{Command}
-use Rattle.core_views.specs.declared.trace.Command.TheVariants.{Access, ChangeHost, ClearLog, DeleteSlot, GetLog, SetLog, SetSlot}
+use Rattle.core_views.specs.declared.trace.Command.TheVariants.{Access, ChangeHost, ChangeRun, ClearLog, DeleteSlot, GetLog, SetLog, SetSlot, Split}
 use Rattle.core_views.specs.declared.trace.HostChange.{HostChange}
 use Rattle.core_views.specs.declared.trace.HostChange.TheVariants.{Allow, Evict, Move, Protect}
+use Rattle.core_views.specs.declared.trace.RunChange.TheVariants.{Huge, Small}
 use Rattle.core_views.specs.declared.trace.Header.{Header}
 use Rattle.trace_reader.specs.Forms.{by_command, by_form}
-use Rattle.trace_reader.specs.Grammar.{AreCommandWords, AreWords, IsActor, IsCommandForm, IsDeclared, TellsChange}
+use Rattle.trace_reader.specs.HostGrammar.{TellsChange}
+use Rattle.trace_reader.specs.Grammar.{AreCommandWords, AreWords, IsActor, IsCommandForm, IsDeclared}
 use Rattle.trace_reader.proofs.Accesses.{IsVcpu, access_form, access_plain, access_reads, add_judged, read_judged, write_judged}
 use Rattle.trace_reader.proofs.ClearLines.{AreClearing, clear_judged, clear_line_form, clear_plain, clear_reads}
-use Rattle.trace_reader.proofs.HostLines.{IsHost, host_judged, host_line_form, host_plain, host_reads}
+use Rattle.trace_reader.proofs.HostLines.{change_line_form, change_plain, change_reads, small_line_form, small_plain, small_reads}
+use Rattle.trace_reader.proofs.HostRows.{Either, IsHostRow, by_host_judged}
+use Rattle.trace_reader.proofs.HugeLines.{huge_line_form, huge_plain, huge_reads}
 use Rattle.trace_reader.proofs.Items.{has_declared}
 use Rattle.trace_reader.proofs.Judged.{AreTwo, IsOne, Judged, none, row}
 use Rattle.trace_reader.proofs.LogLines.{get_judged, get_line_form, get_plain, get_reads, log_line_form, log_off_judged, log_on_judged, log_plain, log_reads}
@@ -25,11 +29,7 @@ use Rattle.trace_reader.proofs.Operands.{small_words}
 use Rattle.trace_reader.proofs.Results.{other_word, parts_same}
 use Rattle.trace_reader.proofs.SlotLines.{AreSetting, IsManager, slot_judged, slot_line_form, slot_plain, slot_reads}
 use Rattle.trace_reader.proofs.SlotLines.{delete_line_form, delete_plain, delete_reads}
-
--- The first of two, or the second.
-abbrev Either : Bool → Type 0 → Type 0 → Type 0
-Either true A B = A
-Either false A B = B
+use Rattle.trace_reader.proofs.SplitLines.{IsWorker, split_judged, split_line_form, split_plain, split_reads}
 
 -- Who makes the command of this word, and which words stand after it.
 abbrev IsRow : List ℕ → Actor → List (List ℕ) → Type 0
@@ -42,20 +42,17 @@ IsRow command a rest =
     Either (bytes_eq command (codes "logon")) (IsManager a × IsOne rest) (
     Either (bytes_eq command (codes "logoff")) (IsManager a × IsOne rest) (
     Either (bytes_eq command (codes "get")) (IsManager a × IsOne rest) (
-    Either (bytes_eq command (codes "move")) (IsHost a × IsOne rest) (
-    Either (bytes_eq command (codes "evict")) (IsHost a × IsOne rest) (
-    Either (bytes_eq command (codes "protect")) (IsHost a × IsOne rest) (
-    Either (bytes_eq command (codes "allow")) (IsHost a × IsOne rest) ⊥)))))))))))
+    Either (bytes_eq command (codes "split")) (IsWorker a × IsOne rest) (IsHostRow command a rest)))))))))
 
 -- The words of a form are the actor's name, a command's word, and those of its row.
 abbrev HasRow : List (List ℕ) → Actor → Type 0
 HasRow words a = (command : List ℕ) × (rest : List (List ℕ)) × (words ≡ actor_name a ∷ command ∷ rest) × IsRow command a rest
 
-host_row : (i : ℕ) (command p : List ℕ) (change : HostChange) → TellsChange command change → IsRow command (Host i) (p ∷ [])
-host_row i command p Move tells = rw tells (tt, (p, refl))
-host_row i command p Evict tells = rw tells (tt, (p, refl))
-host_row i command p Protect tells = rw tells (tt, (p, refl))
-host_row i command p Allow tells = rw tells (tt, (p, refl))
+change_has_row : (i : ℕ) (command p : List ℕ) (change : HostChange) → TellsChange command change → IsRow command (Host i) (p ∷ [])
+change_has_row i command p Move tells = rw tells (tt, (p, refl))
+change_has_row i command p Evict tells = rw tells (tt, (p, refl))
+change_has_row i command p Protect tells = rw tells (tt, (p, refl))
+change_has_row i command p Allow tells = rw tells (tt, (p, refl))
 
 has_row : (words : List (List ℕ)) (a : Actor) → IsCommandForm words a → HasRow words a
 has_row words (Vcpu i) (inl (x, e)) = (codes "read", x ∷ [], e, (tt, (x, refl)))
@@ -66,8 +63,10 @@ has_row words Manager (inr (inl (i, true, e))) = (codes "logon", i ∷ [], e, (t
 has_row words Manager (inr (inl (i, false, e))) = (codes "logoff", i ∷ [], e, (tt, (i, refl)))
 has_row words Manager (inr (inr (inl (i, e)))) = (codes "get", i ∷ [], e, (tt, (i, refl)))
 has_row words Manager (inr (inr (inr (i, f, c, ws, e, counted)))) = (codes "clear", i ∷ f ∷ c ∷ ws, e, (tt, (i, f, c, ws, refl, counted)))
-has_row words (Host i) (command, p, change, tells, e) = (command, p ∷ [], e, host_row i command p change tells)
-has_row words _ form = absurd form
+has_row words (Host i) (inl (command, p, change, tells, e)) = (command, p ∷ [], e, change_has_row i command p change tells)
+has_row words (Host i) (inr (inl (p, l, e))) = (codes "huge", p ∷ l ∷ [], e, (tt, (p, l, refl)))
+has_row words (Host i) (inr (inr (p, e))) = (codes "small", p ∷ [], e, (tt, (p, refl)))
+has_row words (Worker i) (x, e) = (codes "split", x ∷ [], e, (tt, (x, refl)))
 
 -- The first word of an actor's line is its name.
 pub command_first : (words : List (List ℕ)) (a : Actor) → IsCommandForm words a → (rest : List (List ℕ)) × (words ≡ actor_name a ∷ rest)
@@ -101,16 +100,11 @@ by_command_judged h who command rest clear =
     (λ is. rw is (log_off_judged h who rest (only who (codes "logoff") rest))) (λ logoff.
     row (Judged h (who ∷ command ∷ rest)) command (codes "get") _ _ _ refl
     (λ is. rw is (get_judged h who rest (only who (codes "get") rest))) (λ get.
-    row (Judged h (who ∷ command ∷ rest)) command (codes "move") _ _ _ refl
-    (λ is. rw is (host_judged h who (codes "move") Move rest (λ n page lt. lt) refl (only who (codes "move") rest))) (λ moves.
-    row (Judged h (who ∷ command ∷ rest)) command (codes "evict") _ _ _ refl
-    (λ is. rw is (host_judged h who (codes "evict") Evict rest (λ n page lt. lt) refl (only who (codes "evict") rest))) (λ evict.
-    row (Judged h (who ∷ command ∷ rest)) command (codes "protect") _ _ _ refl
-    (λ is. rw is (host_judged h who (codes "protect") Protect rest (λ n page lt. lt) refl (only who (codes "protect") rest))) (λ protect.
-    row (Judged h (who ∷ command ∷ rest)) command (codes "allow") _ _ _ refl
-    (λ is. rw is (host_judged h who (codes "allow") Allow rest (λ n page lt. lt) refl (only who (codes "allow") rest))) (λ allow.
-    none h (who ∷ command ∷ rest) (λ a form.
-    let no : ⊥ = rw (
+    row (Judged h (who ∷ command ∷ rest)) command (codes "split") _ _ _ refl
+    (λ is. rw is (split_judged h who rest (only who (codes "split") rest))) (λ splits.
+    by_host_judged h who command rest (λ a form.
+    let (name, is) = only who command rest a form in
+    let host : IsHostRow command a rest = rw (
       other_word command (codes "clear") clear,
       other_word command (codes "read") read,
       other_word command (codes "write") write,
@@ -119,11 +113,8 @@ by_command_judged h who command rest clear =
       other_word command (codes "logon") logon,
       other_word command (codes "logoff") logoff,
       other_word command (codes "get") get,
-      other_word command (codes "move") moves,
-      other_word command (codes "evict") evict,
-      other_word command (codes "protect") protect,
-      other_word command (codes "allow") allow,
-    ) at (only who command rest a form).1 in no))))))))))))
+      other_word command (codes "split") splits,
+    ) at is in (name, host))))))))))
 
 pub by_form_judged : (h : Header) (words : List (List ℕ)) → Judged h words (by_form h words)
 unfolding by_form
@@ -143,7 +134,10 @@ reads h words Manager (DeleteSlot id) header range are = delete_reads h words id
 reads h words Manager (SetLog id on) header range are = log_reads h words id on are
 reads h words Manager (GetLog id) header range are = get_reads h words id are
 reads h words Manager (ClearLog id first count bits) header range are = clear_reads h words id first count bits range are
-reads h words (Host i) (ChangeHost page change) header range are = host_reads h words i page change header.hosts.count range are
+reads h words (Host i) (ChangeHost page change) header range are = change_reads h words i page change header.hosts.count range are
+reads h words (Host i) (ChangeRun page (Huge level)) header range are = huge_reads h words i page level header.hosts.count range are
+reads h words (Host i) (ChangeRun page Small) header range are = small_reads h words i page header.hosts.count range are
+reads h words (Worker i) (Split gfn) header range are = split_reads h words i gfn header.workers range are
 reads h words _ _ header range are = absurd are
 
 -- Words that say a command are of a form of its actor.
@@ -154,7 +148,10 @@ command_form h words Manager (DeleteSlot id) range are = inl (delete_line_form w
 command_form h words Manager (SetLog id on) range are = inr (inl (log_line_form words id on are))
 command_form h words Manager (GetLog id) range are = inr (inr (inl (get_line_form words id are)))
 command_form h words Manager (ClearLog id first count bits) range are = inr (inr (inr (clear_line_form h words id first count bits range are)))
-command_form h words (Host i) (ChangeHost page change) range are = host_line_form words i page change are
+command_form h words (Host i) (ChangeHost page change) range are = inl (change_line_form words i page change are)
+command_form h words (Host i) (ChangeRun page (Huge level)) range are = inr (inl (huge_line_form words i page level are))
+command_form h words (Host i) (ChangeRun page Small) range are = inr (inr (small_line_form words i page are))
+command_form h words (Worker i) (Split gfn) range are = split_line_form words i gfn are
 command_form h words _ _ range are = absurd are
 
 -- They are words.
@@ -165,7 +162,10 @@ command_words words Manager (DeleteSlot id) le are = delete_plain words id are
 command_words words Manager (SetLog id on) le are = log_plain words id on are
 command_words words Manager (GetLog id) le are = get_plain words id are
 command_words words Manager (ClearLog id first count bits) le are = clear_plain words id first count bits are
-command_words words (Host i) (ChangeHost page change) le are = host_plain words i page change le are
+command_words words (Host i) (ChangeHost page change) le are = change_plain words i page change le are
+command_words words (Host i) (ChangeRun page (Huge level)) le are = huge_plain words i page level le are
+command_words words (Host i) (ChangeRun page Small) le are = small_plain words i page le are
+command_words words (Worker i) (Split gfn) le are = split_plain words i gfn le are
 command_words words _ _ le are = absurd are
 
 -- An actor that makes a command is declared.
@@ -177,6 +177,8 @@ commands h Manager (SetLog id on) range = tt
 commands h Manager (GetLog id) range = tt
 commands h Manager (ClearLog id first count bits) range = tt
 commands h (Host i) (ChangeHost page change) range = range
+commands h (Host i) (ChangeRun page change) range = range.0
+commands h (Worker i) (Split gfn) range = range.0
 commands h _ _ range = absurd range
 
 pub commanding : (h : Header) (a : Actor) (c : Command) → IsHeader h → IsCommandOf h a c → IsActor a × IsDeclared h a

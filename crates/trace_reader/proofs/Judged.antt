@@ -8,8 +8,7 @@ use Rattle.core_views.specs.declared.trace.Command.{Command}
 use Rattle.core_views.specs.declared.trace.Header.{Header}
 use Rattle.trace_reader.specs.declared.reason.Reason.{Reason}
 use Rattle.trace_reader.specs.declared.reason.Reason.TheVariants as reason
-use Rattle.trace_reader.specs.Forms.{Said}
-use Rattle.trace_reader.specs.Operands.{◌>>=◌}
+use Rattle.trace_reader.specs.Operands.{◌>>=◌, Said}
 use Rattle.trace_reader.specs.Grammar.{AreCommandWords, IsCommandForm, IsActor, IsDeclared}
 use Rattle.trace_reader.proofs.Names.{Names}
 use Rattle.trace_reader.proofs.Operands.{IsNumber}

@@ -12,6 +12,9 @@ pub mod SlotLines
 pub mod LogLines
 pub mod ClearLines
 pub mod HostLines
+pub mod HugeLines
+pub mod HostRows
+pub mod SplitLines
 pub mod Commands
 pub mod Words
 pub mod Bytes

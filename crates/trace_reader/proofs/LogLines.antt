@@ -9,8 +9,8 @@ use Rattle.core_views.specs.declared.actor.Actor.TheVariants.{Manager}
 use Rattle.core_views.specs.declared.trace.Command.{Command}
 use Rattle.core_views.specs.declared.trace.Command.TheVariants.{GetLog, SetLog}
 use Rattle.core_views.specs.declared.trace.Header.{Header}
-use Rattle.trace_reader.specs.Operands.{◌>>=◌, number}
-use Rattle.trace_reader.specs.Forms.{Said, by_command, by_form, get_form, id_form, log_form}
+use Rattle.trace_reader.specs.Operands.{◌>>=◌, Said, number}
+use Rattle.trace_reader.specs.Forms.{by_command, by_form, get_form, id_form, log_form}
 use Rattle.trace_reader.specs.Grammar.{AreCommandWords, AreWords, IsCommandForm, IsGetForm, IsLogForm, Spells, get_words, log_words}
 use Rattle.trace_reader.proofs.Judged.{IsOne, IsPairSaid, Judged, Tells, judged, none, numbers, row}
 use Rattle.trace_reader.proofs.Operands.{bound, number_found, number_number, number_spelled}

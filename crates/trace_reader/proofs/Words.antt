@@ -13,8 +13,8 @@ use Rattle.trace_reader.specs.declared.reason.Reason.{Reason}
 use Rattle.trace_reader.specs.declared.reason.Reason.TheVariants as reason
 use Rattle.trace_reader.specs.declared.saying.Saying.{Saying}
 use Rattle.trace_reader.specs.declared.saying.Saying.TheVariants.{Does, Go, Schedules}
-use Rattle.trace_reader.specs.Operands.{◌>>=◌}
-use Rattle.trace_reader.specs.Forms.{Said, by_form}
+use Rattle.trace_reader.specs.Operands.{◌>>=◌, Said}
+use Rattle.trace_reader.specs.Forms.{by_form}
 use Rattle.trace_reader.specs.Items.{item_said}
 use Rattle.trace_reader.specs.Sayings.{IsSayingOf, by_first, command_said, go_said, schedule_said}
 use Rattle.trace_reader.specs.Grammar.{AreCommandWords, IsActor, IsCommandForm, IsDeclared}

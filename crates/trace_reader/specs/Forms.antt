@@ -1,25 +1,18 @@
 -- What the words of an actor's line say: a table by the command's word, one row and one function for each form.
-use Rattle.std.specs.Prelude.{◌%◌, ◌<◌, ◌^◌, ℕ, List, [], ◌∷◌, Bool, true, false, ◌&&◌, nat_lt, ◌==◌, if◌then◌else◌, codes, length, Result, Ok, Err}
+use Rattle.std.specs.Prelude.{◌%◌, ◌^◌, ℕ, List, [], ◌∷◌, Bool, true, false, ◌&&◌, nat_lt, ◌==◌, if◌then◌else◌, codes, length, Result, Ok, Err}
 use Rattle.std.specs.List.{slice_split}
 use Rattle.std.specs.Str.{bytes_eq}
-use Rattle.core_views.specs.Traces.{IsCommandOf}
-use Rattle.core_views.specs.declared.actor.Actor.{Actor}
-use Rattle.core_views.specs.declared.actor.Actor.TheVariants.{Vcpu, Host, Manager}
+use Rattle.core_views.specs.declared.actor.Actor.TheVariants.{Vcpu, Manager, Worker}
 use Rattle.core_views.specs.declared.trace.Command.{Command}
-use Rattle.core_views.specs.declared.trace.Command.TheVariants.{Access, ChangeHost, ClearLog, DeleteSlot, GetLog, SetLog, SetSlot}
-use Rattle.core_views.specs.declared.trace.HostChange.{HostChange}
-use Rattle.core_views.specs.declared.trace.HostChange.TheVariants.{Allow, Evict, Move, Protect}
+use Rattle.core_views.specs.declared.trace.Command.TheVariants.{Access, ClearLog, DeleteSlot, GetLog, SetLog, SetSlot, Split}
 use Rattle.core_views.specs.declared.trace.Op.TheVariants.{Read, Write, Add}
 use Rattle.core_views.specs.declared.trace.Slot.{Slot}
 use Rattle.core_views.specs.declared.trace.Header.{Header}
 use Rattle.trace_reader.specs.declared.reason.Reason.{Reason}
 use Rattle.trace_reader.specs.declared.reason.Reason.TheVariants as reason
 use Rattle.trace_reader.specs.Numbers.{spelled_number}
-use Rattle.trace_reader.specs.Operands.{◌>>=◌, address, are_counted, host_thread, number, numbers, vcpu}
-
--- an actor and its command, or why there is none
-abbrev pub Said : Type 0
-Said = Result (Actor × Command) Reason
+use Rattle.trace_reader.specs.Operands.{◌>>=◌, Said, address, are_counted, guest_frame, number, numbers, vcpu, worker}
+use Rattle.trace_reader.specs.HostForms.{by_host}
 
 -- `vN read A`
 unfoldable pub read_form : Header → List ℕ → List (List ℕ) → Said
@@ -93,16 +86,12 @@ clear_form who (id ∷ first ∷ count ∷ words) =
     if bytes_eq who (codes "vm") && are_counted (spelled_number count) words then clearing id first count words else Err reason.Word
 clear_form who _ = Err reason.Word
 
--- Each host thread may make this change by a line, of any page.
-abbrev pub HostsMake : Header → HostChange → Type 0
-HostsMake h change = (n page : ℕ) → n < length h.hosts → IsCommandOf h (Host n) (ChangeHost page change)
+-- `wN split GFN`
+unfoldable pub split_form : Header → List ℕ → List (List ℕ) → Said
+split_form h who (x ∷ []) = worker h who >>= λ n. guest_frame x >>= λ gfn. Ok (Worker n, Split gfn)
+split_form h who _ = Err reason.Word
 
--- `hN WORD P`, where the command's word tells this change
-unfoldable pub host_form : Header → HostChange → List ℕ → List (List ℕ) → Said
-host_form h change who (x ∷ []) = host_thread h who >>= λ n. number x >>= λ page. Ok (Host n, ChangeHost page change)
-host_form h change who _ = Err reason.Word
-
--- what the words after a command's word say: one row for each form but that of a clear
+-- what the words after a command's word say: one row for each form but that of a clear, and one for all of host threads
 unfoldable pub by_command : Header → List ℕ → List ℕ → List (List ℕ) → Said
 by_command h who command rest =
     if bytes_eq command (codes "read") then read_form h who rest else
@@ -112,11 +101,8 @@ by_command h who command rest =
     if bytes_eq command (codes "logon") then log_form true who rest else
     if bytes_eq command (codes "logoff") then log_form false who rest else
     if bytes_eq command (codes "get") then get_form who rest else
-    if bytes_eq command (codes "move") then host_form h Move who rest else
-    if bytes_eq command (codes "evict") then host_form h Evict who rest else
-    if bytes_eq command (codes "protect") then host_form h Protect who rest else
-    if bytes_eq command (codes "allow") then host_form h Allow who rest else
-    Err reason.Word
+    if bytes_eq command (codes "split") then split_form h who rest else
+    by_host h who command rest
 
 -- what the words of an actor's line say: its name, the command's word, and the words after it
 unfoldable pub by_form : Header → List (List ℕ) → Said

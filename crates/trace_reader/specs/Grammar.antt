@@ -6,20 +6,13 @@ use Rattle.core_views.specs.Text.{actor_name}
 use Rattle.core_views.specs.declared.actor.Actor.{Actor}
 use Rattle.core_views.specs.declared.actor.Actor.TheVariants.{Vcpu, Host, Manager, Worker}
 use Rattle.core_views.specs.declared.trace.Command.{Command}
-use Rattle.core_views.specs.declared.trace.Command.TheVariants.{Access, ChangeHost, ClearLog, DeleteSlot, GetLog, SetLog, SetSlot}
-use Rattle.core_views.specs.declared.trace.HostChange.{HostChange}
-use Rattle.core_views.specs.declared.trace.HostChange.TheVariants.{Allow, Evict, Move, Protect}
+use Rattle.core_views.specs.declared.trace.Command.TheVariants.{Access, ChangeHost, ChangeRun, ClearLog, DeleteSlot, GetLog, SetLog, SetSlot, Split}
 use Rattle.core_views.specs.declared.trace.Op.TheVariants.{Read, Write, Add}
+use Rattle.core_views.specs.declared.trace.RunChange.TheVariants.{Huge, Small}
 use Rattle.core_views.specs.declared.trace.Header.{Header}
-use Rattle.trace_reader.specs.Numbers.{is_hex_digit, value}
-
--- The word is `0x` and 1 to 16 of the digits `0` to `9` and `a` to `f`, whose value is the number.
-abbrev pub IsHexOf : List ℕ → ℕ → Type 0
-IsHexOf w n = (ds : List ℕ) × (w ≡ codes "0x" ++ ds) × (1 ≤ length ds) × (length ds ≤ 16) × (list_all is_hex_digit ds ≡ true) × (value 16 ds ≡ n)
-
--- The word spells the number, which is below 2 ^ 64: as it is printed in decimal, or in hexadecimal.
-abbrev pub Spells : List ℕ → ℕ → Type 0
-Spells w n = (n < 2 ^ 64) × ((w ≡ decimal n) ⊎ IsHexOf w n)
+pub use Rattle.trace_reader.specs.Numbers.{Spells}
+pub use Rattle.trace_reader.specs.SplitGrammar.{IsSplitForm, split_words}
+use Rattle.trace_reader.specs.HostGrammar.{IsChangeForm, IsHugeForm, IsSmallForm, TellsChange, huge_words, page_words}
 
 -- The words with one space between each two, and none at either end.
 abbrev pub spaced : List (List ℕ) → List ℕ
@@ -57,17 +50,6 @@ get_words i = actor_name Manager ∷ codes "get" ∷ i ∷ []
 abbrev pub clear_words : List ℕ → List ℕ → List ℕ → List (List ℕ) → List (List ℕ)
 clear_words i f c ws = actor_name Manager ∷ codes "clear" ∷ i ∷ f ∷ c ∷ ws
 
--- The word is that of a host thread's line that makes this change.
-abbrev pub TellsChange : List ℕ → HostChange → Type 0
-TellsChange w Move = w ≡ codes "move"
-TellsChange w Evict = w ≡ codes "evict"
-TellsChange w Protect = w ≡ codes "protect"
-TellsChange w Allow = w ≡ codes "allow"
-
--- the words of `hN WORD P`
-abbrev pub host_words : ℕ → List ℕ → List ℕ → List (List ℕ)
-host_words i command p = actor_name (Host i) ∷ command ∷ p ∷ []
-
 -- BASE and HOST are in the ranges that a slot's have.
 abbrev pub AreSlotPlaces : ℕ → ℕ → Type 0
 AreSlotPlaces base host = (base < 2 ^ 36) × (host < 2 ^ 36) × (host % 64 ≡ 0)
@@ -88,7 +70,10 @@ AreCommandWords words Manager (GetLog id) = (i : List ℕ) × (words ≡ get_wor
 AreCommandWords words Manager (ClearLog id first count bits) =
     (i f c : List ℕ) × (ws : List (List ℕ)) × (words ≡ clear_words i f c ws) × Spells i id × Spells f first × Spells c count × AllZip Spells ws bits
 AreCommandWords words (Host i) (ChangeHost page change) =
-    (command p : List ℕ) × TellsChange command change × (words ≡ host_words i command p) × Spells p page
+    (command p : List ℕ) × TellsChange command change × (words ≡ page_words i command p) × Spells p page
+AreCommandWords words (Host i) (ChangeRun page (Huge level)) = (p l : List ℕ) × (words ≡ huge_words i p l) × Spells p page × Spells l level
+AreCommandWords words (Host i) (ChangeRun page Small) = (p : List ℕ) × (words ≡ page_words i (codes "small") p) × Spells p page
+AreCommandWords words (Worker i) (Split gfn) = (g : List ℕ) × (words ≡ split_words i g) × Spells g gfn
 AreCommandWords words _ _ = ⊥
 
 -- The word has bytes, and no space.
@@ -123,16 +108,12 @@ abbrev pub IsClearForm : List (List ℕ) → Type 0
 IsClearForm words =
     (i f c : List ℕ) × (ws : List (List ℕ)) × (words ≡ clear_words i f c ws) × ((count : ℕ) → Spells c count → length ws ≡ (count + 63) / 64)
 
--- The words are those of a line of this host thread, whatever stands in the number's place.
-abbrev pub IsHostForm : ℕ → List (List ℕ) → Type 0
-IsHostForm i words = (command p : List ℕ) × (change : HostChange) × TellsChange command change × (words ≡ host_words i command p)
-
 -- The words are of a form that the actor's own lines have.
 abbrev pub IsCommandForm : List (List ℕ) → Actor → Type 0
 IsCommandForm words (Vcpu i) = IsAccessForm i words
 IsCommandForm words Manager = IsSlotForm words ⊎ IsLogForm words ⊎ IsGetForm words ⊎ IsClearForm words
-IsCommandForm words (Host i) = IsHostForm i words
-IsCommandForm words _ = ⊥
+IsCommandForm words (Host i) = IsChangeForm i words ⊎ IsHugeForm i words ⊎ IsSmallForm i words
+IsCommandForm words (Worker i) = IsSplitForm i words
 
 -- Some header declares the actor.
 abbrev pub IsActor : Actor → Type 0

@@ -1,6 +1,7 @@
 pub mod Reasons
 pub mod Numbers
 pub mod Operands
+pub mod HostForms
 pub mod Forms
 pub mod Items
 pub mod Sayings
@@ -10,6 +11,8 @@ pub mod Lines
 pub mod Gathered
 pub mod Reading
 pub mod Ranges
+pub mod HostGrammar
+pub mod SplitGrammar
 pub mod Grammar
 pub mod LineGrammar
 pub mod GrammarRefusals

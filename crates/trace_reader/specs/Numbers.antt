@@ -1,5 +1,7 @@
 -- The number that a word spells.
-use Rattle.std.specs.Prelude.{◌+◌, ◌-◌, ◌*◌, ◌^◌, ℕ, List, [], ◌∷◌, Bool, ◌&&◌, ◌||◌, length, slice_index, nat_lt, nat_le, not, ◌==◌, if◌then◌else◌}
+use Rattle.std.specs.Prelude.{◌≡◌, ◌≤◌, ◌<◌, ◌+◌, ◌-◌, ◌*◌, ◌^◌, ◌⊎◌, ◌++◌, ℕ, List, [], ◌∷◌, codes, Bool, true, ◌&&◌, ◌||◌}
+use Rattle.std.specs.Prelude.{length, slice_index, nat_lt, nat_le, not, ◌==◌, if◌then◌else◌}
+use Rattle.std.specs.Fmt.{decimal}
 use Rattle.std.specs.List.{list_all}
 use Rattle.std.specs.declared.option.Option.{Option}
 use Rattle.std.specs.declared.option.Option.TheVariants.{Some, None}
@@ -46,3 +48,11 @@ abbrev pub spelled_number : List ℕ → Option ℕ
 spelled_number [] = None
 spelled_number (a ∷ []) = decimal_number (a ∷ [])
 spelled_number (a ∷ b ∷ ds) = if a == 48 && b == 120 then hex_number ds else decimal_number (a ∷ b ∷ ds)
+
+-- The word is `0x` and 1 to 16 of the digits `0` to `9` and `a` to `f`, whose value is the number.
+abbrev pub IsHexOf : List ℕ → ℕ → Type 0
+IsHexOf w n = (ds : List ℕ) × (w ≡ codes "0x" ++ ds) × (1 ≤ length ds) × (length ds ≤ 16) × (list_all is_hex_digit ds ≡ true) × (value 16 ds ≡ n)
+
+-- The word spells the number, which is below 2 ^ 64: as it is printed in decimal, or in hexadecimal.
+abbrev pub Spells : List ℕ → ℕ → Type 0
+Spells w n = (n < 2 ^ 64) × ((w ≡ decimal n) ⊎ IsHexOf w n)

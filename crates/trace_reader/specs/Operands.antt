@@ -1,11 +1,17 @@
--- What one word of an actor's line spells: a number, an address, the index in the actor's name.
+-- What one word of an actor's line spells: a number, an address, a level, the index in the actor's name.
 use Rattle.std.specs.Prelude.{◌+◌, ◌*◌, ◌/◌, ◌%◌, ◌^◌, ℕ, List, [], ◌∷◌, Bool, true, ◌&&◌, nat_lt, nat_le, ◌==◌, if◌then◌else◌, length, Result, Ok, Err}
 use Rattle.std.specs.declared.option.Option.{Option}
 use Rattle.std.specs.declared.option.Option.TheVariants.{Some, None}
+use Rattle.core_views.specs.declared.actor.Actor.{Actor}
+use Rattle.core_views.specs.declared.trace.Command.{Command}
 use Rattle.core_views.specs.declared.trace.Header.{Header}
 use Rattle.trace_reader.specs.declared.reason.Reason.{Reason}
 use Rattle.trace_reader.specs.declared.reason.Reason.TheVariants as reason
 use Rattle.trace_reader.specs.Numbers.{spelled_number, decimal_number}
+
+-- an actor and its command, or why there is none
+abbrev pub Said : Type 0
+Said = Result (Actor × Command) Reason
 
 infixl 10 ◌>>=◌
 -- the first refusal, or what the second step gives
@@ -27,6 +33,14 @@ unfoldable pub numbers : List (List ℕ) → Result (List ℕ) Reason
 numbers [] = Ok []
 numbers (w ∷ ws) = number w >>= λ n. numbers ws >>= λ ns. Ok (n ∷ ns)
 
+-- a level of large pages
+abbrev pub is_large_level : ℕ → Bool
+is_large_level level = nat_le 2 level && nat_le level 3
+
+-- the level of large pages that the word spells
+unfoldable pub large_level : List ℕ → Result ℕ Reason
+large_level w = number w >>= λ level. if is_large_level level then Ok level else Err reason.Number
+
 -- There is a word for each 64 of so many pages; where their count is no number, there may be any words.
 abbrev pub are_counted : Option ℕ → List (List ℕ) → Bool
 are_counted None ws = true
@@ -45,6 +59,15 @@ access_at words (Some a) = if is_address words a then Ok (a / 4096, a % 4096 / 8
 unfoldable pub address : Header → List ℕ → Result (ℕ × ℕ) Reason
 address h w = access_at h.words (spelled_number w)
 
+-- the guest frame with this number
+abbrev pub frame_at : Option ℕ → Result ℕ Reason
+frame_at None = Err reason.Number
+frame_at (Some n) = if nat_lt n (2 ^ 36) then Ok n else Err reason.Number
+
+-- the guest frame whose number the word spells
+unfoldable pub guest_frame : List ℕ → Result ℕ Reason
+guest_frame w = frame_at (spelled_number w)
+
 -- an index that an actor's name may have, below the count of those that are declared
 abbrev pub declared : ℕ → ℕ → Option ℕ → Result ℕ Reason
 declared most count None = Err reason.Word
@@ -62,3 +85,7 @@ vcpu h w = indexed 118 15 h.vcpus w
 -- the host thread that the word names: `h` and its index
 unfoldable pub host_thread : Header → List ℕ → Result ℕ Reason
 host_thread h w = indexed 104 3 (length h.hosts) w
+
+-- the worker that the word names: `w` and its index
+unfoldable pub worker : Header → List ℕ → Result ℕ Reason
+worker h w = indexed 119 3 h.workers w

@@ -1,18 +1,20 @@
-ghost use Rattle.std.specs.Prelude.{◌≡◌, ◌≤◌, ◌<◌, ◌^◌, length, map, IfOk};
+ghost use Rattle.std.specs.Prelude.{◌≡◌, ◌≤◌, ◌<◌, ◌^◌, map, IfOk};
 ghost use Rattle.std.specs.Str.{bytes_eq};
 ghost use Rattle.core_views.specs.Traces.{IsCommandOf};
 ghost use Rattle.core_views.specs.declared.actor.Actor.TheVariants.{Manager};
-ghost use Rattle.trace_reader.specs.Operands.{indexed, vcpu, host_thread, address, number as number_word};
-ghost use Rattle.trace_reader.specs.Forms.{slot, slot_command, setting, read_form, write_form, add_form, slot_form, HostsMake, host_form, by_command};
+ghost use Rattle.trace_reader.specs.Operands.{indexed, vcpu, address, number as number_word};
+ghost use Rattle.trace_reader.specs.Forms.{slot, slot_command, setting, read_form, write_form, add_form, slot_form, by_command};
 ghost use Rattle.trace_reader.specs.Forms.{by_form};
 ghost use Rattle.trace_reader.specs.Grammar.{AreSlotPlaces};
 ghost use Rattle.trace_reader.specs.Steps.{ReadsTo};
 
 use crate::Reason;
+use crate::host_form::host_command_said;
 use crate::log_form::{clear_said, get_said, log_said};
 use crate::number::{decimal, number};
 use crate::refusal::ReadError;
-use core_views::{Actor, Command, Header, HostChange, Op, Slot};
+use crate::split_form::split_said;
+use core_views::{Actor, Command, Header, Op, Slot};
 use std::alloc::Global;
 
 /// Whether the word is this name.
@@ -77,14 +79,6 @@ fn vcpu_of(header: &Header, word: &[u8]) -> Result<u8, Reason>
     ensures small { IfOk result (λ n. n < header.now.vcpus) }
 {
     index_of(b'v', 15, header.vcpus as u64, word)
-}
-
-#[tactic(auto, unfolding(crate::specs::Operands::host_thread))]
-fn host_thread_of(header: &Header, word: &[u8]) -> Result<u8, Reason>
-    ensures value { result ≡ host_thread header.now word.now }
-    ensures small { IfOk result (λ n. n < length header.now.hosts) }
-{
-    index_of(b'h', 3, header.hosts.as_slice().len() as u64, word)
 }
 
 #[tactic(auto, unfolding(crate::specs::Forms::read_form))]
@@ -203,27 +197,8 @@ fn slot_said(header: &Header, who: &[u8], rest: &[&[u8]]) -> Result<(Actor, Comm
     }
 }
 
-// A line that makes this change: the command's word tells which.
-#[tactic(auto, unfolding(crate::specs::Forms::host_form))]
-fn host_said(
-    header: &Header,
-    change: HostChange,
-    who: &[u8],
-    rest: &[&[u8]],
-) -> Result<(Actor, Command), Reason>
-    requires { HostsMake header.now change }
-    ensures value { result ≡ host_form header.now change who.now (map (λ w. w.now) rest.now) }
-    ensures allowed { IfOk result (λ x. IsCommandOf header.now x.0 x.1) }
-{
-    let [page] = rest else {
-        return Err(Reason::Word);
-    };
-    let index = host_thread_of(header, who)?;
-    let page = number_of(page)?;
-    Ok((Actor::Host(index), Command::ChangeHost { page, change }))
-}
-
-// What the words after a command's word say: one row for each form but that of a clear.
+// What the words after a command's word say: one row for each form but that of a clear, and one
+// for all of host threads.
 #[tactic(auto, unfolding(crate::specs::Forms::by_command))]
 fn command_said(
     header: &Header,
@@ -249,16 +224,10 @@ fn command_said(
         log_said(false, who, rest)
     } else if is(command, "get") {
         get_said(who, rest)
-    } else if is(command, "move") {
-        host_said(header, HostChange::Move, who, rest)
-    } else if is(command, "evict") {
-        host_said(header, HostChange::Evict, who, rest)
-    } else if is(command, "protect") {
-        host_said(header, HostChange::Protect, who, rest)
-    } else if is(command, "allow") {
-        host_said(header, HostChange::Allow, who, rest)
+    } else if is(command, "split") {
+        split_said(header, who, rest)
     } else {
-        Err(Reason::Word)
+        host_command_said(header, who, command, rest)
     }
 }
 

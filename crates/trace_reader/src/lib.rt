@@ -6,6 +6,7 @@ mod body;
 mod form;
 mod grammar;
 mod header;
+mod host_form;
 mod item;
 mod line;
 mod lines;
@@ -17,6 +18,7 @@ mod reading;
 mod reason;
 mod refusal;
 mod saying;
+mod split_form;
 
 pub use grammar::{grammar_is_exact, header_grammar_is_exact, input_grammar_is_exact};
 pub use item::kind_name;

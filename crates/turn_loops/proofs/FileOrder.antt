@@ -8,10 +8,10 @@ use Rattle.std.proofs.lemmas.Option.{slice_get-get_or}
 use Rattle.std.proofs.lemmas.Bool.Decides.{nat_tests}
 use Rattle.std.specs.Prelude.{Bool, true, false, Some, ◌==◌, nat_lt, if◌then◌else◌, slice_get}
 use Rattle.core_views.specs.declared.actor.Actor.{Actor}
-use Rattle.core_views.specs.declared.actor.Actor.TheVariants.{Vcpu, Manager, Host}
+use Rattle.core_views.specs.declared.actor.Actor.TheVariants.{Vcpu, Manager, Host, Worker}
 use Rattle.core_views.specs.declared.sizes.Sizes.{Sizes}
 use Rattle.core_views.specs.declared.trace.Command.{Command}
-use Rattle.core_views.specs.declared.trace.Command.TheVariants.{Access, ChangeHost}
+use Rattle.core_views.specs.declared.trace.Command.TheVariants.{Access, ChangeHost, ChangeRun, Split}
 use Rattle.core_views.specs.declared.trace.Line.{Line}
 use Rattle.core_views.specs.Actors.{is_same}
 use Rattle.core_views.specs.Sizes.{actor_at, actors_of, index_of}
@@ -68,6 +68,8 @@ pub maker_there : (z : Sizes) (actor : Actor) (command : Command) → IsCommandF
 maker_there z (Vcpu n) (Access gfn word op) may = let lt = may.0 in omega (arith, lt)
 maker_there z Manager command may = omega arith
 maker_there z (Host n) (ChangeHost page change) may = omega (arith, may)
+maker_there z (Host n) (ChangeRun page change) may = let lt = may.0 in omega (arith, lt)
+maker_there z (Worker n) (Split gfn) may = let lt = may.0 in omega (arith, lt)
 maker_there z _ _ may = absurd may
 
 vcpu_at : (z : Sizes) (n : ℕ) → n < z.vcpus → actor_at z n ≡ Vcpu n
@@ -87,10 +89,21 @@ host_at z n lt =
     let there : nat_lt (z.vcpus + n - z.vcpus) z.hosts ≡ true = grind (arith, same, lt, nat_tests) in
     rw (past, there) (ap Host same)
 
+worker_at : (z : Sizes) (n : ℕ) → actor_at z (z.vcpus + z.hosts + 1 + n) ≡ Worker n
+worker_at z n =
+    let place : ℕ = z.vcpus + z.hosts + 1 + n in
+    let same : place - z.vcpus - z.hosts - 1 ≡ n = omega arith in
+    let past : nat_lt place z.vcpus ≡ false = grind (arith, nat_tests) in
+    let behind : nat_lt (place - z.vcpus) z.hosts ≡ false = grind (arith, nat_tests) in
+    let not_manager : (place == z.vcpus + z.hosts) ≡ false = grind (arith, nat_tests) in
+    rw (past, behind, not_manager) (ap Worker same)
+
 pub maker_is : (z : Sizes) (actor : Actor) (command : Command) → IsCommandFor z actor command → actor_at z (index_of z actor) ≡ actor
 maker_is z (Vcpu n) (Access gfn word op) may = vcpu_at z n may.0
 maker_is z Manager command may = manager_at z
 maker_is z (Host n) (ChangeHost page change) may = host_at z n may
+maker_is z (Host n) (ChangeRun page change) may = host_at z n may.0
+maker_is z (Worker n) (Split gfn) may = worker_at z n
 maker_is z _ _ may = absurd may
 
 -- The actor at another place is another one.

@@ -18,7 +18,7 @@ use Rattle.core_views.specs.declared.host.HostEntry.{HostEntry}
 use Rattle.core_views.specs.declared.migration.Migration.{Migration}
 use Rattle.core_views.specs.declared.sizes.Sizes.{Sizes}
 use Rattle.core_views.specs.declared.trace.Command.{Command}
-use Rattle.core_views.specs.declared.trace.Command.TheVariants.{Access, ChangeHost, ClearLog, DeleteSlot, GetLog, Migrate, SetLog, SetSlot, ChangeRun}
+use Rattle.core_views.specs.declared.trace.Command.TheVariants.{Access, ChangeHost, ChangeRun, ClearLog, DeleteSlot, GetLog, Migrate, SetLog, SetSlot, Split}
 use Rattle.core_views.specs.declared.trace.HostChange.{HostChange}
 use Rattle.core_views.specs.declared.trace.HostChange.TheVariants.{Move}
 use Rattle.core_views.specs.declared.trace.MigrationCall.{MigrationCall}
@@ -91,6 +91,7 @@ unbarred number z slots migration actor (GetLog id) = no_refusal number (read_re
 unbarred number z slots migration actor (ClearLog id first count words) = no_refusal number (read_refusal (ClearLog id first count words) slots)
 unbarred number z slots migration actor (Migrate call) = no_call number slots migration call
 unbarred number z slots migration actor (Access gfn word op) = refl
+unbarred number z slots migration actor (Split gfn) = refl
 unbarred number z slots migration actor (SetSlot id slot) = no_change number (change_at_once z (SetSlot id slot) slots)
 unbarred number z slots migration actor (DeleteSlot id) = no_change number (change_at_once z (DeleteSlot id) slots)
 unbarred number z slots migration actor (SetLog id on) = no_change number (change_at_once z (SetLog id on) slots)

@@ -30,6 +30,8 @@ use Rattle.mmu_core.proofs.pages.FramesKept.{brought_frame}
 use Rattle.mmu_core.proofs.machine.ColumnsTell.{some_is}
 use Rattle.mmu_core.proofs.words.PartTopics.{behind_step, part_behind, part_hand}
 use Rattle.part_steps.specs.InvalidationRange.{IsOnRun}
+use Rattle.part_steps.specs.PageRuns.{one_look}
+use Rattle.mmu_core.proofs.held.PageRuns.{on_it}
 
 -- what is copied, in a view
 abbrev pub CopiedAt : Sizes → View → Type 0
@@ -54,7 +56,7 @@ pub moves_page : (z : Sizes) (v : View) (i : ℕ) → TopicsInvariant z v → i 
 moves_page z v i P lt sizes at M = record {
   there = looked.0;
   frame = looked.1;
-  invalid = M.invalid;
+  invalid = on_it (page_looked (v.hand i).topics.host) (v.hand i).topics.invalidations.own.pages M.invalid;
   asked = subst (λ (y : Sizes). y.vcpus ≤ (v.hand i).topics.flush.asked) sizes M.asked;
   awaited = subst (λ (y : Sizes). y.vcpus ≤ (v.hand i).topics.flush.awaited) sizes M.awaited;
 }
@@ -195,6 +197,7 @@ module _ (z : Sizes) (v : View) (a note : ℕ) (I : TopicsInvariant z v) (C : Co
       after : Bool → Topics
       after won = record t {
         host = Some (record { page = page; word = if won then new_ else v.words area.Host page });
+        row = one_look;
         watched = 0;
         frames = record t.frames { owned = frame_after won (host_frame looked) t.frames.owned };
       }

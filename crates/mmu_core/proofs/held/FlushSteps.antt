@@ -31,6 +31,7 @@ use Rattle.mmu_core.proofs.held.FlushChanges.{asked_on, awaited_on, cached_more,
 use Rattle.mmu_core.proofs.held.StatesKept.{states_frame}
 use Rattle.mmu_core.proofs.machine.Columns.{at_upd, same_or, upd_other, upd_same}
 use Rattle.mmu_core.proofs.machine.PartStepping.{IsPart}
+use Rattle.mmu_core.proofs.held.KeptEmpty.{changed_empty}
 
 -- the flushes' part, of a view
 abbrev pub FlushAt : Sizes → View → Type 0
@@ -189,6 +190,8 @@ module _ (z : Sizes) (v : View) (a note : ℕ) (c : Buffer Translation) (g : Hel
         let closed = S.needs.0.opening.closed in let opened = empty_open (topics (part.SetEnd last gfn)) emptied in absurd (cc (closed, opened))
     topics_flushed part.Publish k S shown F = λ emptied.
         absurd (published_none h.topics.invalidations.opened h.topics.invalidations.own.pages S.needs.of_no_page emptied)
+    topics_flushed part.ChangeNext k S shown F = λ emptied.
+        let was = F (changed_empty h.topics _ emptied) in record { order = was.order; asks = was.asks; awaits = was.awaits }
     topics_flushed part.Give k S shown F = λ emptied. F (given_empty h.topics S.needs.0 emptied)
     topics_flushed part.GiveOld k S shown F = λ emptied.
         let closed = S.needs.closed in let opened = empty_open (topics part.GiveOld) emptied in absurd (cc (closed, opened))

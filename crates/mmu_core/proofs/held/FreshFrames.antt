@@ -11,12 +11,13 @@ use Rattle.core_views.specs.Slots.{contains, has_host_page}
 use Rattle.spte_words.specs.declared.area.Area.TheVariants as area
 use Rattle.spte_words.specs.HostWords.{host_present, with_presence, host_frame}
 use Rattle.part_steps.specs.InvalidationHoldings.{knows_count}
-use Rattle.part_steps.specs.InvalidationRange.{gfn_behind}
+use Rattle.core_views.specs.declared.topics.Invalidated.{Invalidated}
+use Rattle.part_steps.specs.InvalidationRange.{IsOnRun, gfn_behind}
 use Rattle.part_steps.specs.PartHoldings.{IsFresh, MayEnter}
 use Rattle.part_steps.specs.PartTasks.{word_looked}
 use Rattle.part_steps.specs.SlotWords.{leaf_at, page_of}
 use Rattle.part_steps.specs.StayTopics.{has_lock}
-use Rattle.mmu_core.specs.invariant.InvalidatedPart.{SlotGives, IsIn}
+use Rattle.mmu_core.specs.invariant.InvalidatedPart.{SlotGives, IsIn, IsOfPages}
 use Rattle.mmu_core.specs.invariant.InvalidationsPart.{knows_seq}
 use Rattle.mmu_core.specs.invariant.SearchPart.{IsInvalidating, IsOnPage}
 use Rattle.mmu_core.specs.invariant.SlotSetPart.{IsLiveIn}
@@ -139,3 +140,14 @@ leaf_brought pool host set page old_ level gfn leaf absent L =
     lost : (won : Bool) → (won ≡ true → host page ≡ old_) → host_present (host page) ≡ true → (if won then with_presence true old_ else host page) ≡ host page
     lost false same there = refl
     lost true same there = absurd (let gone : host_present (host page) ≡ false = ap host_present (same refl) ∙ absent in cc (gone, there))
+
+-- An invalidation is of a page, and not of this guest frame: where the page's host word changes, the leaf of the guest frame is the same.
+pub leaf_elsewhere : (pool host : ℕ → ℕ) (set page x : ℕ) (own_ : Invalidated) (level gfn leaf : ℕ) → IsOfPages pool set own_ → IsOnRun page own_.pages
+    → (IsIn own_ gfn → ⊥) → IsLeafFor pool host set level gfn leaf → IsLeafFor pool (upd host page x) set level gfn leaf
+leaf_elsewhere pool host set page x own_ level gfn leaf scope on out L = leaf_same pool host set page x level gfn leaf L (λ e. absurd (apart e))
+  where
+    apart : page_of L.slot gfn ≢ page
+    apart e =
+        let B = behind_it L.slot gfn L.holds in
+        let given : SlotGives pool set (page_of L.slot gfn) gfn = record { id = L.id; slot = L.slot; live = L.live; has = B.0; is = B.1 } in
+        out (scope.covers page gfn on (subst (λ p. SlotGives pool set p gfn) e given))

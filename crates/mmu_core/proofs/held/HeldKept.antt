@@ -167,9 +167,9 @@ held_behind z v a note part.Exclude =
 held_behind z v a note part.Release =
     λ S I. still_held z v a part.Release _ S I (let_go_held (stands I.up I.spot) (v.hand a).topics (v.hand a).topics.stay (I.held a S.there))
 held_behind z v a note part.Slots =
-    λ S I. still_held z v a part.Slots _ S I (slots_held (v.words area.Slots 0) (stands I.up I.spot) (v.hand a).topics (I.held a S.there))
+    λ S I. still_held z v a part.Slots _ S I (slots_held (v.words area.Slots 0) (stands I.up I.spot) (v.hand a).topics _ (I.held a S.there))
 held_behind z v a note part.Slot =
-    λ S I. still_held z v a part.Slot _ S I (slot_held (stands I.up I.spot) (v.hand a).topics (is_some (v.hand a).topics.search.set) _ (I.held a S.there))
+    λ S I. still_held z v a part.Slot _ S I (slot_held (stands I.up I.spot) (v.hand a).topics (is_some (v.hand a).topics.search.set) _ _ (I.held a S.there))
 held_behind z v a note part.Seq = λ S I. still_held z v a part.Seq _ S I
     (snapshot_held (stands I.up I.spot) (v.hand a).topics _ (is_loose (v.hand a).topics.hold) refl refl refl refl (I.held a S.there))
 held_behind z v a note part.Publish =

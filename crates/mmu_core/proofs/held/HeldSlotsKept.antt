@@ -76,7 +76,7 @@ same_slots z v a note step other seq same S I i set gfn id slot lt held taken no
     pool = v.words area.Pool
 
     before : NoneInvalidating z v (IsOnFrame gfn)
-    before j low U = none j low (invalidating_after z v a note (IsOnFrame gfn) step S other j U)
+    before j low U = none j low (invalidating_after z v a note (IsOnFrame gfn) (λ won own_ on. on) step S other j U)
 
     own : a < actors_of z → (topics_now v a note step).invalidations.snapshot ≡ Some (v.words area.Seq 0)
         → LoadedOrHeld v a (topics_now v a note step) set → IsLiveIn pool (v.words area.Slots 0) id slot
@@ -92,7 +92,7 @@ published_slots z v a note S I i set gfn id slot lt held taken none live has =
     (λ j ne there held taken. I.held_slots j set gfn id slot there held taken before live has) i lt held taken))
   where
     before : NoneInvalidating z v (IsOnFrame gfn)
-    before j low U = none j low (invalidating_after z v a note (IsOnFrame gfn) part.Publish S refl j U)
+    before j low U = none j low (invalidating_after z v a note (IsOnFrame gfn) (λ won own_ on. on) part.Publish S refl j U)
 
     -- the frame of a slot that is flushed out is one that the publisher is invalidating
     stays : IsLiveIn (v.words area.Pool) (page_owned (v.hand a).topics.owned) id slot ⊎ IsFlushedOut z.vcpus slot (v.hand a).topics

@@ -20,6 +20,7 @@ use Rattle.part_steps.specs.ControlTopics.{at_root, at_set}
 use Rattle.mmu_core.specs.invariant.TreePart.{Position, at, stands}
 use Rattle.mmu_core.proofs.pages.UsesStay.{StaysStanding}
 use Rattle.mmu_core.proofs.held.LeadsDown.{LeadsDown}
+use Rattle.core_views.specs.declared.topics.HostRow.{HostRow}
 
 pub never_or : (b : Bool) → (b || true) ≡ false → ⊥
 never_or true e = cc
@@ -61,9 +62,9 @@ root_held root stands t is H =
     by true from = is
     by false from = absurd (omega (arith, from))
 
-pub slots_held : (slots : ℕ) (stands : ℕ → Option Position) (t : Topics) → HeldPart stands t
-    → HeldPart stands (record t { search = at_set (may_search t.stay t.hold) t.search slots })
-slots_held slots stands t H = record { table = H.table; no_table = H.no_table; no_set = λ f. ap (λ (b : Bool). (at_set b t.search slots).set) f }
+pub slots_held : (slots : ℕ) (stands : ℕ → Option Position) (t : Topics) (row : HostRow) → HeldPart stands t
+    → HeldPart stands (record t { search = at_set (may_search t.stay t.hold) t.search slots; row = row })
+slots_held slots stands t row H = record { table = H.table; no_table = H.no_table; no_set = λ f. ap (λ (b : Bool). (at_set b t.search slots).set) f }
 
 -- a search goes on in the same slot set
 pub searched_set : (f : SlotField) (s : SlotSearch) (v : ℕ) → (searched_at f s v).set ≡ s.set
@@ -74,9 +75,9 @@ pub set_kept : (b : Bool) (s : SlotSearch) (v : ℕ) → (if b then searched s v
 set_kept true s v = searched_set s.next s v
 set_kept false s v = refl
 
-pub slot_held : (stands : ℕ → Option Position) (t : Topics) (b : Bool) (v : ℕ) → HeldPart stands t
-    → HeldPart stands (record t { search = if b then searched t.search v else t.search })
-slot_held stands t b v H = record { table = H.table; no_table = H.no_table; no_set = λ f. set_kept b t.search v ∙ H.no_set f }
+pub slot_held : (stands : ℕ → Option Position) (t : Topics) (b : Bool) (row : HostRow) (v : ℕ) → HeldPart stands t
+    → HeldPart stands (record t { search = if b then searched t.search v else t.search; row = row })
+slot_held stands t b row v H = record { table = H.table; no_table = H.no_table; no_set = λ f. set_kept b t.search v ∙ H.no_set f }
 
 -- a snapshot lets the search go, or leaves it
 pub snapshot_held : (stands : ℕ → Option Position) (t s : Topics) (b : Bool) → s.stay ≡ t.stay → s.hold ≡ t.hold → s.walk ≡ t.walk

@@ -20,6 +20,7 @@ use Rattle.mmu_core.specs.machine.View.{View, answer_in}
 use Rattle.mmu_core.proofs.machine.Columns.{at_upd}
 use Rattle.mmu_core.proofs.machine.PartStepping.{IsPart}
 use Rattle.mmu_core.proofs.words.PartTopics.{part_behind}
+use Rattle.part_steps.specs.PageRuns.{changed_more}
 
 -- the topics after the actor's own step
 abbrev pub topics_now : View → ℕ → ℕ → PartStep → Topics
@@ -34,7 +35,11 @@ raises_number _ = false
 abbrev pub NoneInvalidating : Sizes → View → (Invalidated → Type 0) → Type 0
 NoneInvalidating z v IsOf = (j : ℕ) → j < actors_of z → IsInvalidating IsOf (v.hand j).topics → ⊥
 
-module _ (z : Sizes) (v : View) (a note : ℕ) (IsOf : Invalidated → Type 0) where
+-- What is meant holds of an invalidation still once one more page of its run is changed.
+abbrev pub StaysOf : (Invalidated → Type 0) → Type 0
+StaysOf IsOf = (won : Bool) (own_ : Invalidated) → IsOf own_ → IsOf (record own_ { pages = changed_more won own_.pages })
+
+module _ (z : Sizes) (v : View) (a note : ℕ) (IsOf : Invalidated → Type 0) (stays : StaysOf IsOf) where
   own_invalidating : (step : PartStep) → IsPart z v a step → raises_number step ≡ false → IsInvalidating IsOf (v.hand a).topics
       → IsInvalidating IsOf (topics_now v a note step)
   own_invalidating (part.SetSeq seq) S other U = absurd (cc other)
@@ -42,6 +47,8 @@ module _ (z : Sizes) (v : View) (a note : ℕ) (IsOf : Invalidated → Type 0) w
   own_invalidating (part.SetEnd last gfn) S other U = absurd (let closed = S.needs.0.opening.closed in let opened = U.opened in cc (closed, opened))
   own_invalidating (part.SetCount count) S other U =
       absurd (let raised = S.needs.0.closes U.opened in let unraised = U.unraised in cc (raised, unraised))
+  own_invalidating part.ChangeNext S other U =
+      record { opened = U.opened; unraised = U.unraised; of_it = stays _ (v.hand a).topics.invalidations.own U.of_it }
   own_invalidating _ S other U = record { opened = U.opened; unraised = U.unraised; of_it = U.of_it }
 
   -- Whoever is invalidating it does so after a step that raises no number.

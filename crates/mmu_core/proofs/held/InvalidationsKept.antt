@@ -275,6 +275,9 @@ checks_behind z v a note (part.SetEnd last gfn) = λ S I. stored_checked z v a _
     (end_stored _ _ _ _ (v.hand a).topics (I.checks a S.there) last gfn)
 checks_behind z v a note (part.SetCount count) = λ S I. stored_checked z v a count _ _ _ _ S.there I S.needs.0.alone (unknown _ _ _ _ _ refl)
 checks_behind z v a note (part.SetSeq seq) = λ S I. stored_checked z v a _ _ _ seq _ S.there I S.needs.0.alone (unknown _ _ _ _ _ refl)
+checks_behind z v a note part.ChangeNext = λ S I.
+    let C = I.checks a S.there in
+    all_checked z v a _ I (record { counted = C.counted; started = C.started; ended = C.ended; numbered = C.numbered })
 checks_behind z v a note _ = λ S I. all_checked z v a _ I (same_checked _ _ _ _ (v.hand a).topics (I.checks a S.there) _ refl refl)
 
 pub checks_kept : (z : Sizes) (v : View) (a : ℕ) (step : PartStep) (note : ℕ) → IsPart z v a step → TopicsInvariant z v

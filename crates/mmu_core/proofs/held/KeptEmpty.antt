@@ -1,22 +1,25 @@
 -- Which open invalidations leave nothing of their frames: those of host pages, and those of slots up to the publication.
-use Rattle.std.proofs.Common.{◌≡◌, ℕ, refl, subst, ap, ◌∙◌}
+use Rattle.std.proofs.Common.{◌≡◌, ℕ, refl, sym, subst, ap, ◌∙◌}
 use Rattle.std.specs.Prelude.{Bool, true, false, ◌&&◌, ◌||◌, not, Option, Some, None, is_some}
 use Rattle.core_views.specs.declared.topics.OwnedPage.{OwnedPage}
 use Rattle.core_views.specs.declared.topics.PageRun.{PageRun}
 use Rattle.core_views.specs.declared.topics.Topics.{Topics}
-use Rattle.part_steps.specs.InvalidationRange.{IsOnRun}
+use Rattle.part_steps.specs.PageRuns.{IsOnRun}
+use Rattle.part_steps.specs.TopicSteps.{run_changed}
 use Rattle.part_steps.specs.PageTopics.{given_back, still_retired}
 use Rattle.mmu_core.specs.invariant.InvalidatedPart.{keeps_empty}
 use Rattle.mmu_core.proofs.forms.access.FaultSame.{both}
-use Rattle.mmu_core.proofs.held.PageRuns.{some_run}
+use Rattle.mmu_core.proofs.held.PageRuns.{some_changed, some_run}
 
 pub empty_open : (t : Topics) → keeps_empty t ≡ true → t.invalidations.opened ≡ true
 empty_open t is = (both t.invalidations.opened (is_some t.invalidations.own.pages || not (is_some t.retired)) is).0
 
+pub some_empty : (t : Topics) → t.invalidations.opened ≡ true → is_some t.invalidations.own.pages ≡ true → keeps_empty t ≡ true
+some_empty t opened some =
+    ap (λ (b : Bool). b && (is_some t.invalidations.own.pages || not (is_some t.retired))) opened ∙ ap (λ (b : Bool). b || not (is_some t.retired)) some
+
 pub page_empty : (t : Topics) (page : ℕ) → t.invalidations.opened ≡ true → IsOnRun page t.invalidations.own.pages → keeps_empty t ≡ true
-page_empty t page opened on =
-    ap (λ (b : Bool). b && (is_some t.invalidations.own.pages || not (is_some t.retired))) opened
-    ∙ ap (λ (b : Bool). b || not (is_some t.retired)) (some_run page t.invalidations.own.pages on)
+page_empty t page opened on = some_empty t opened (some_run page t.invalidations.own.pages on)
 
 by_none : (p : Option PageRun) (r : Option ℕ) → r ≡ None → (is_some p || not (is_some r)) ≡ true
 by_none (Some page) r none = refl
@@ -50,3 +53,8 @@ still_there (Some o) retired some = refl
 pub given_empty : (t : Topics) → is_some t.owned ≡ true → keeps_empty (given_back t) ≡ true → keeps_empty t ≡ true
 given_empty t some is =
     subst (λ (r : Option ℕ). (t.invalidations.opened && (is_some t.invalidations.own.pages || not (is_some r))) ≡ true) (still_there t.owned t.retired some) is
+
+-- Who changes a page of a run leaves its invalidation as it is.
+pub changed_empty : (t : Topics) (won : Bool) → keeps_empty (run_changed won t) ≡ true → keeps_empty t ≡ true
+changed_empty t won is =
+    sym (ap (λ (b : Bool). t.invalidations.opened && (b || not (is_some t.retired))) (some_changed won t.invalidations.own.pages)) ∙ is

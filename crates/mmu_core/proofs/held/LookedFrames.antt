@@ -26,9 +26,12 @@ use Rattle.mmu_core.proofs.held.LooksKept.{page_there}
 use Rattle.mmu_core.proofs.held.Retired.{OldStays, OwnStays, held_quiet, held_same, held_still, retired_now}
 use Rattle.mmu_core.proofs.machine.Columns.{same_or, upd_other, upd_same}
 use Rattle.mmu_core.proofs.machine.PartStepping.{IsPart}
-use Rattle.mmu_core.proofs.pages.FramesKept.{brought_frame, is_as_looked, moved_frame, revised_frame, same_word}
+use Rattle.mmu_core.proofs.pages.FramesKept.{brought_frame, is_as_looked, moved_frame, revised_frame, same_word, names_same}
 use Rattle.mmu_core.proofs.machine.ColumnsTell.{tells}
 use Rattle.mmu_core.proofs.words.PartTopics.{behind_step, part_behind}
+use Rattle.part_steps.specs.PageRuns.{word_given}
+use Rattle.mmu_core.proofs.words.HostStays.{given_frame}
+use Rattle.mmu_core.proofs.held.NextPages.{next_page, next_words_behind}
 
 abbrev LookedAt : Sizes → View → Type 0
 LookedAt z v = LookedFramesPart z (actors_of z) (v.words area.Host) (λ i. (v.hand i).topics)
@@ -174,6 +177,25 @@ change_looked z v a note new_ S I =
     looked_exchanged z v a _ _ I S.there S.needs.0.looked refl (λ i le. omega arith)
     (changed_turns z v a new_ S t.frames.owned (is_as_looked t v) refl (λ e. tells (v.words area.Host (page_looked t.host)) (word_looked t.host) e))
 
+-- A page of a run that is changed keeps its frame.
+next_looked : (z : Sizes) (v : View) (a note : ℕ) → LookedAfter z v a note part.ChangeNext
+next_looked z v a note S I =
+    subst (λ (h : ℕ → ℕ). LookedFramesPart z (actors_of z) h (λ i. ((part_behind a part.ChangeNext note v).hand i).topics)) (sym (next_words_behind z v a S I note))
+    (λ i k lt e. named (looked_same z v a _ I (λ k e. absurd (cc e)) refl refl i k lt e))
+  where
+    host : ℕ → ℕ
+    host = v.words area.Host
+
+    page : ℕ
+    page = next_page z v a S I
+
+    same : (p : ℕ) → host_frame (upd host page (word_given S.needs.run page) p) ≡ host_frame (host p)
+    same = names_same host page (word_given S.needs.run page) (given_frame z v a S I)
+
+    named : {X : Type 0} {k : ℕ} → IsNamed z.pages host k ⊎ X → IsNamed z.pages (upd host page (word_given S.needs.run page)) k ⊎ X
+    named (inl N) = inl (N.0, N.1, same N.0 ∙ N.2)
+    named (inr x) = inr x
+
 -- ---- Each step.
 
 looked_after : (z : Sizes) (v : View) (a note : ℕ) (step : PartStep) → LookedAfter z v a note step
@@ -206,6 +228,7 @@ looked_after z v a note part.GiveFrame =
     (λ i k ne lt section left unwatched. absurd (all_passed z (v.hand a) a i S.sizes S.own_place S.needs.watched lt ne unwatched))
 looked_after z v a note part.Bring = brought_looked z v a note
 looked_after z v a note (part.Change new_) = change_looked z v a note new_
+looked_after z v a note part.ChangeNext = next_looked z v a note
 looked_after z v a note _ = λ S I. looked_same z v a _ I (λ k e. inr (e, refl)) refl refl
 
 pub looked_frames_kept : (z : Sizes) (v : View) (a : ℕ) (step : PartStep) (note : ℕ) → IsPart z v a step → TopicsInvariant z v

@@ -22,6 +22,8 @@ use Rattle.mmu_core.proofs.machine.Columns.{at_upd, same_or, upd_other, upd_same
 use Rattle.mmu_core.proofs.machine.PartStepping.{IsPart}
 use Rattle.mmu_core.proofs.words.HostStays.{IsRevised, brought_word, exchanged_word, put_word, still_brought}
 use Rattle.mmu_core.proofs.words.PartTopics.{behind_step, part_behind}
+use Rattle.mmu_core.proofs.held.PageRuns.{on_changed, on_it}
+use Rattle.mmu_core.proofs.held.NextPages.{next_page, next_under, next_words_behind}
 
 pub this_look : {page word : ℕ} {look : HostLook} → Some (record { page = page; word = word }) ≡ Some look → look ≡ record { page = page; word = word }
 this_look e = cc e
@@ -97,6 +99,8 @@ own_look z v a note part.Bring S I = exchanged_look z v a _ I S.there S.needs.lo
 own_look z v a note (part.Change new_) S I =
     let L = exchanged_look z v a new_ I S.there S.needs.0.looked (put_word z v a new_ S I) in
     record { there = L.there; is_word = L.is_word; snapshot = L.snapshot }
+own_look z v a note part.ChangeNext S I =
+    record { there = λ look e. absurd (cc e); is_word = λ look e. absurd (cc e); snapshot = (I.looks a S.there).snapshot }
 own_look z v a note (part.SetSeq seq) S I =
     let L = was_look z v a I S.there in
     let is = S.needs.1 in
@@ -111,7 +115,7 @@ NoneUnder z v page = NoneInvalidating z v (IsOnPage page)
 
 under_behind : (z : Sizes) (v : View) (a note page : ℕ) (step : PartStep) → IsPart z v a step → raises_number step ≡ false → (j : ℕ)
     → IsInvalidating (IsOnPage page) (v.hand j).topics → IsInvalidating (IsOnPage page) ((part_behind a step note v).hand j).topics
-under_behind z v a note page = invalidating_after z v a note (IsOnPage page)
+under_behind z v a note page = invalidating_after z v a note (IsOnPage page) (λ won own_. on_changed won page own_.pages)
 
 -- ---- what was looked up is still so
 
@@ -153,7 +157,7 @@ changed_still z v a note new_ S I i lt look s at snapshot same none = by (same_o
     under : IsInvalidating (IsOnPage page) ((part_behind a (part.Change new_) note v).hand a).topics
     under =
         under_behind z v a note page (part.Change new_) S refl a
-        (record { opened = S.needs.0.opened; unraised = S.needs.0.unraised; of_it = S.needs.0.invalid })
+        (record { opened = S.needs.0.opened; unraised = S.needs.0.unraised; of_it = on_it page t.invalidations.own.pages S.needs.0.invalid })
 
     by : (look.page ≡ page) ⊎ (look.page ≢ page) → IsStill look.word (host_now v a note (part.Change new_) look.page)
     by (inl e) = absurd (none a S.there (subst (λ p. IsInvalidating (IsOnPage p) ((part_behind a (part.Change new_) note v).hand a).topics) (sym e) under))
@@ -163,6 +167,27 @@ changed_still z v a note new_ S I i lt look s at snapshot same none = by (same_o
         (λ there l n here e f free. absurd (free.1 (ap (λ (x : HostLook). x.page) (this_look here))))
         (λ j ne there l n here e f free. (I.looks j there).still l n here e f free.0) i lt look s at snapshot same
         ((λ j low U. none j low (under_behind z v a note look.page (part.Change new_) S refl j U)), ne))
+
+-- So is the page of a run that is changed next; what was looked up of it was before.
+next_still : (z : Sizes) (v : View) (a note : ℕ) → IsPart z v a part.ChangeNext → TopicsInvariant z v → StillBehind z v a note part.ChangeNext
+next_still z v a note S I i lt look s at snapshot same none = by (same_or look.page page)
+  where
+    page : ℕ
+    page = next_page z v a S I
+
+    before : (q j : ℕ) → IsInvalidating (IsOnPage q) (v.hand j).topics → IsInvalidating (IsOnPage q) ((part_behind a part.ChangeNext note v).hand j).topics
+    before q = under_behind z v a note q part.ChangeNext S refl
+
+    by : (look.page ≡ page) ⊎ (look.page ≢ page) → IsStill look.word (host_now v a note part.ChangeNext look.page)
+    by (inl e) =
+        absurd (none a S.there
+        (before look.page a (subst (λ q. IsInvalidating (IsOnPage q) (v.hand a).topics) (sym e) (next_under z v a S I))))
+    by (inr ne) =
+        subst (λ (h : ℕ → ℕ). IsStill look.word (h look.page)) (sym (next_words_behind z v a S I note))
+        (subst (IsStill look.word) (sym (upd_other (v.words area.Host) page look.page _ ne))
+        (at_upd (λ j (k : Held). j < actors_of z → AreStill k.topics (v.words area.Seq 0) (v.words area.Host) (NoneUnder z v)) v.hand a _
+        (λ there l n here. absurd (cc here)) (λ j ne there. (I.looks j there).still) i lt look s at snapshot same
+        (λ j low U. none j low (before look.page j U))))
 
 -- What an exchange leaves is what its actor has looked up then.
 pub own_now : (v : View) (a note page word : ℕ) (step : PartStep) (look : HostLook) → Some (record { page = page; word = word }) ≡ Some look
@@ -199,6 +224,7 @@ still_behind : (z : Sizes) (v : View) (a note : ℕ) (step : PartStep) → IsPar
 still_behind z v a note (part.SetSeq seq) S I = raised_still z v a note seq S I
 still_behind z v a note part.Bring S I = brought_still z v a note S I
 still_behind z v a note (part.Change new_) S I = changed_still z v a note new_ S I
+still_behind z v a note part.ChangeNext S I = next_still z v a note S I
 still_behind z v a note part.Enter S I = stays_still z v a note part.Enter S I refl refl refl (λ look s at. absurd (cc at))
 still_behind z v a note part.Leave S I = stays_still z v a note part.Leave S I refl refl refl (λ look s at. absurd (cc at))
 still_behind z v a note part.Begin S I = stays_still z v a note part.Begin S I refl refl refl (λ look s at. absurd (cc at))

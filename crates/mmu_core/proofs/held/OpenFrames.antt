@@ -125,7 +125,7 @@ module _ (z : Sizes) (v : View) (a : ℕ) (I : TopicsInvariant z v) (there : a <
       let some = some_open O (inl known) i lt opened in
       let range = range_known t.invalidations.checked t.invalidations.count some (inl known) in
       let same = (I.checks a there).started (ap has_lock O.alone) (ap knows_start range) in
-      let low = start_lower (target_start target t.search) (target_end target t.search) t.invalidations some in
+      let low = start_lower (target_start target t.search t.row) (target_end target t.search t.row) t.invalidations some in
       omega (arith, is, same, low)
 
   ends_for : (target : Target) (gfn : ℕ) → IsOpening target t → has_widened t.invalidations.checked t.invalidations.count ≡ true → gfn ≡ range_end target t
@@ -134,7 +134,7 @@ module _ (z : Sizes) (v : View) (a : ℕ) (I : TopicsInvariant z v) (there : a <
       let some = some_open O (inr known) i lt opened in
       let range = range_known t.invalidations.checked t.invalidations.count some (inr known) in
       let same = (I.checks a there).ended (ap has_lock O.alone) (ap knows_end range) in
-      let high = end_higher (target_start target t.search) (target_end target t.search) t.invalidations some in
+      let high = end_higher (target_start target t.search t.row) (target_end target t.search t.row) t.invalidations some in
       omega (arith, is, same, high)
 
   -- The frames of who opens one are in the range that it has stored.

@@ -20,6 +20,7 @@ use Rattle.mmu_core.proofs.words.PartTopics.{behind_step, part_behind}
 use Rattle.mmu_core.proofs.held.OwnPages.{changes_own, one_place_owns}
 use Rattle.mmu_core.proofs.held.Invalidating.{topics_now}
 use Rattle.mmu_core.proofs.held.LooksKept.{host_now, others_now, own_now}
+use Rattle.mmu_core.proofs.held.NextPages.{next_owned, next_page, next_words_behind}
 
 abbrev OwnLooksAt : Sizes → (ℕ → ℕ) → View → Type 0
 OwnLooksAt z host v = OwnLooksPart z (actors_of z) host (λ i. (v.hand i).topics)
@@ -50,6 +51,17 @@ own_looks_behind z v a note (part.Change new_) S I = λ i look lt.
   where
     page : ℕ
     page = page_looked (v.hand a).topics.host
+own_looks_behind z v a note part.ChangeNext S I = λ i look lt.
+    at_upd (λ j (k : Held). j < actors_of z → k.topics.host ≡ Some look → owns_page z j look.page ≡ true
+    → IsStill look.word (host_now v a note part.ChangeNext look.page)) v.hand a _
+    (λ there at own_. absurd (cc at))
+    (λ j ne there at own_. subst (λ (h : ℕ → ℕ). IsStill look.word (h look.page)) (sym (next_words_behind z v a S I note))
+    (subst (IsStill look.word) (sym (upd_other (v.words area.Host) page look.page _
+    (λ e. ne (one_place_owns z S.is_sizes j a page (subst (λ p. owns_page z j p ≡ true) e own_) (next_owned z v a S I)))))
+    (I.own_looks j look there at own_))) i lt
+  where
+    page : ℕ
+    page = next_page z v a S I
 own_looks_behind z v a note part.Enter S I = owned_still z v a note part.Enter S I refl (λ look at. absurd (cc at))
 own_looks_behind z v a note part.Leave S I = owned_still z v a note part.Leave S I refl (λ look at. absurd (cc at))
 own_looks_behind z v a note part.Begin S I = owned_still z v a note part.Begin S I refl (λ look at. absurd (cc at))

@@ -5,12 +5,8 @@ use Rattle.core_views.specs.declared.place.SlotField.{SlotField}
 use Rattle.core_views.specs.declared.place.SlotField.TheVariants as field
 use Rattle.core_views.specs.declared.sizes.Sizes.{Sizes}
 use Rattle.core_views.specs.declared.topics.Hold.{Hold}
-use Rattle.core_views.specs.declared.topics.Hold.TheVariants.{Shared, Owing, Exclusive}
 use Rattle.core_views.specs.declared.topics.HostLook.{HostLook}
-use Rattle.core_views.specs.declared.topics.OwnedPage.{OwnedPage}
 use Rattle.core_views.specs.declared.topics.SlotSearch.{SlotSearch}
-use Rattle.core_views.specs.declared.topics.Stay.{Stay}
-use Rattle.core_views.specs.declared.topics.Stay.TheVariants.{Outside}
 use Rattle.core_views.specs.declared.topics.Topics.{Topics}
 use Rattle.core_views.specs.declared.trace.Slot.{Slot as SlotOf}
 use Rattle.core_views.specs.Held.{Held}
@@ -20,13 +16,16 @@ use Rattle.spte_words.specs.declared.area.Area.TheVariants as area
 use Rattle.spte_words.specs.Flags.{flags_live}
 use Rattle.part_steps.specs.declared.part_step.PartStep.{PartStep}
 use Rattle.part_steps.specs.declared.part_step.PartStep.TheVariants as part
-use Rattle.part_steps.specs.ControlBits.{has_writer}
-use Rattle.part_steps.specs.InvalidationRange.{has_found, has_found_looked, page_aimed, page_looked, page_of_look}
-use Rattle.part_steps.specs.PageTopics.{claimed, filled_more, searched, searched_at}
+use Rattle.part_steps.specs.InvalidationRange.{has_found, has_found_looked, page_looked, run_aimed, run_of_look, run_searched}
+use Rattle.part_steps.specs.PageRuns.{covering, is_single, run_looked}
+use Rattle.part_steps.specs.PageTopics.{searched, searched_at}
+use Rattle.mmu_core.proofs.held.AimedStays.{aimed_stays, searches_slots}
+use Rattle.mmu_core.proofs.held.Invalidating.{topics_now}
+use Rattle.core_views.specs.declared.topics.HostRow.{HostRow}
+use Rattle.core_views.specs.declared.topics.PageRun.{PageRun}
 use Rattle.part_steps.specs.PartTasks.{set_held, part_task}
-use Rattle.part_steps.specs.PartTopics.{sequenced}
 use Rattle.part_steps.specs.SlotWords.{slot_at, slot_index}
-use Rattle.part_steps.specs.StayTopics.{is_alone, is_loose, may_search}
+use Rattle.part_steps.specs.StayTopics.{is_alone}
 use Rattle.mmu_core.specs.invariant.InvalidatedPart.{PassedPart}
 use Rattle.mmu_core.specs.invariant.SearchPart.{SearchPart}
 use Rattle.mmu_core.specs.invariant.SlotSetPart.{IsLiveIn}
@@ -40,7 +39,6 @@ use Rattle.mmu_core.proofs.machine.Columns.{at_upd}
 use Rattle.mmu_core.proofs.machine.PartStepping.{IsPart}
 use Rattle.mmu_core.proofs.slots.SlotsStay.{is_live_was}
 use Rattle.mmu_core.proofs.words.PartTopics.{behind_step}
-use Rattle.part_steps.specs.PartTopics.{part_topics}
 
 -- It is so at each slot below this ID, where it is searched like this.
 abbrev PassedBelow : (ℕ → ℕ) → ℕ → ℕ → SlotSearch → Type 0
@@ -110,18 +108,28 @@ searched_passed f pool set page s at own low P unfound passed = by f at
 abbrev PassedIn : Sizes → (ℕ → ℕ) → View → Type 0
 PassedIn z pool v = (i : ℕ) → i < actors_of z → PassedPart pool (v.hand i).topics
 
--- Who shares the lock, or tries to, doesn't have it alone.
-shares_not : (tried : Bool) (word : ℕ) → ◌≡◌ {A = Hold} (if tried then Owing word else Shared) Exclusive → ⊥
-shares_not true word e = cc e
-shares_not false word e = cc e
+-- What was loaded of a slot leaves what the actor aims at.
+pub covering_aim : (run : Option PageRun) (s : SlotSearch) (row : HostRow) (look : HostLook) → run_looked look (covering run s row) ≡ run_looked look row
+covering_aim None s row look = refl
+covering_aim (Some run) s row look = refl
 
-slot_passed : (pool : ℕ → ℕ) (t : Topics) → is_some t.search.set ≡ true → t.search.id ≤ 31
-    → (is_alone t.hold && has_found_looked t) ≡ false → SearchPart pool t.search → PassedPart pool t
+pub slot_aim : (b : Bool) (run : Option PageRun) (s : SlotSearch) (row : HostRow) (host : Option HostLook)
+    → run_of_look host (if b then covering run s row else row) ≡ run_of_look host row
+slot_aim false run s row host = refl
+slot_aim true run s row None = refl
+slot_aim true run s row (Some look) = ap Some (covering_aim run s row look)
+
+slot_passed : (pool : ℕ → ℕ) (t : Topics) (row : HostRow) → run_of_look t.host row ≡ run_of_look t.host t.row → is_some t.search.set ≡ true
+    → t.search.id ≤ 31 → (is_alone t.hold && has_found_looked t) ≡ false → SearchPart pool t.search → PassedPart pool t
     → PassedPart pool (record t {
       search = if is_some t.search.set then searched t.search (pool (slot_index (set_held t.search.set) t.search.id t.search.next)) else t.search;
+      row = row;
     })
-slot_passed pool t some low unfound P passed alone out looked set held = by (is_some t.search.set) some held
+slot_passed pool t row same some low unfound P passed alone out single set held = by (is_some t.search.set) some held
   where
+    aimed : is_single (run_aimed t) ≡ true
+    aimed = ap (λ (r : Option PageRun). is_single (if is_some t.owned then None else r)) (sym same) ∙ single
+
     -- where a set is held, it is this one
     by : (b : Bool) → b ≡ true
         → (if b then searched t.search (pool (slot_index (set_held t.search.set) t.search.id t.search.next)) else t.search).set ≡ Some set
@@ -131,81 +139,35 @@ slot_passed pool t some low unfound P passed alone out looked set held = by (is_
     by true is e =
         let own : t.search.set ≡ Some set = sym (searched_set t.search.next t.search _) ∙ e in
         let none : has_found (page_looked t.host) t.search ≡ false =
-        ap (λ (b : Bool). b && has_found (page_looked t.host) t.search) (sym looked) ∙ ap (λ (k : Hold). is_alone k && has_found_looked t) (sym alone)
+        ap (λ (b : Bool). b && has_found (page_looked t.host) t.search) (sym aimed) ∙ ap (λ (k : Hold). is_alone k && has_found_looked t) (sym alone)
         ∙ unfound in
         subst (λ n. PassedBelow pool set (page_looked t.host) (searched t.search (pool (slot_index n t.search.id t.search.next)))) (sym (ap set_held own))
-        (searched_passed t.search.next pool set (page_looked t.host) t.search refl own low P none (passed alone out looked set own))
+        (searched_passed t.search.next pool set (page_looked t.host) t.search refl own low P none (passed alone out aimed set own))
 
--- What an actor may change after its step it might before, where it owned no page, ..
-aimed_before : (owned now_ : Option OwnedPage) (host : Option HostLook) → owned ≡ None
-    → is_some (if is_some now_ then None else page_of_look host) ≡ true → is_some (if is_some owned then None else page_of_look host) ≡ true
-aimed_before (Some o) now_ host none aimed = absurd (cc none)
-aimed_before None (Some n) host none aimed = absurd (cc aimed)
-aimed_before None None host none aimed = aimed
+some_single : (run : Option PageRun) → is_single run ≡ true → (r : PageRun) × (run ≡ Some r)
+some_single None single = absurd (cc single)
+some_single (Some r) single = (r, refl)
 
--- .. where it filled more of the page that it owns, ..
-aimed_filled : (owned : Option OwnedPage) (host : Option HostLook) (value : ℕ)
-    → is_some (if is_some (filled_more owned value) then None else page_of_look host) ≡ true
-    → is_some (if is_some owned then None else page_of_look host) ≡ true
-aimed_filled (Some o) host value aimed = absurd (cc aimed)
-aimed_filled None host value aimed = aimed
-
--- .. and where a host page was looked at.
-aimed_looked : (owned : Option OwnedPage) (host now_ : Option HostLook) → is_some host ≡ true
-    → is_some (if is_some owned then None else page_of_look now_) ≡ true → is_some (if is_some owned then None else page_of_look host) ≡ true
-aimed_looked (Some o) host now_ looked aimed = absurd (cc aimed)
-aimed_looked None None now_ looked aimed = absurd (cc looked)
-aimed_looked None (Some look) now_ looked aimed = refl
-
--- what the step finds
-abbrev answer : View → ℕ → ℕ → PartStep → ℕ
-answer v a note step = answer_in (part_task step a (v.hand a).topics note) v.words
+-- Where nothing was loaded of the slots.
+passed_before : (z : Sizes) (v : View) (a note : ℕ) (step : PartStep) → searches_slots step ≡ false → IsPart z v a step → TopicsInvariant z v
+    → PassedPart (v.words area.Pool) (topics_now v a note step)
+passed_before z v a note step other S I alone out single set held =
+    let R = some_single (run_aimed (topics_now v a note step)) single in
+    let W = aimed_stays z v a note step other S I alone out R.0 R.1 set held in
+    let was = I.passed a S.there W.alone W.out (ap is_single W.aimed ∙ (ap is_single (sym R.1) ∙ single)) set
+    (sym (ap (λ (s : SlotSearch). s.set) W.search) ∙ held) in
+    subst (λ (s : SlotSearch). PassedBelow (v.words area.Pool) set (page_looked (topics_now v a note step).host) s) (sym W.search)
+    (subst (λ p. PassedBelow (v.words area.Pool) set p (v.hand a).topics.search) (sym W.looked) was)
 
 own_passed : (z : Sizes) (v : View) (a note : ℕ) (step : PartStep) → IsPart z v a step → TopicsInvariant z v
-    → PassedPart (v.words area.Pool) (part_topics step (v.hand a).topics (answer v a note step))
-own_passed z v a note part.Enter S I = λ alone out looked set held. absurd (cc held)
-own_passed z v a note part.Leave S I = λ alone out looked set held. absurd (cc held)
-own_passed z v a note part.Begin S I = λ alone out looked set held. absurd (cc held)
-own_passed z v a note part.End S I = λ alone out looked set held. absurd (cc held)
-own_passed z v a note part.Publish S I = λ alone out looked set held. absurd (cc held)
-own_passed z v a note part.Unshare S I = λ alone. absurd (cc alone)
-own_passed z v a note part.Release S I = λ alone. absurd (cc alone)
-own_passed z v a note part.Share S I = λ alone. absurd (shares_not (has_writer (v.words area.Lock 0)) (v.words area.Lock 0) alone)
-own_passed z v a note part.Exclude S I = λ alone out looked set held.
-    let t : Topics = (v.hand a).topics in
-    let none = (I.held a S.there).no_set (ap (λ (s : Stay). may_search s t.hold) out ∙ ap (may_search Outside) S.needs) in
-    absurd (cc (held, none))
-own_passed z v a note part.Slots S I = λ alone out looked set held id slot L lt. absurd (omega (arith, lt))
+    → PassedPart (v.words area.Pool) (topics_now v a note step)
+own_passed z v a note part.Slots S I = λ alone out single set held id slot L lt. absurd (omega (arith, lt))
 own_passed z v a note part.Slot S I =
-    slot_passed (v.words area.Pool) (v.hand a).topics S.needs.0 S.needs.1 S.needs.2 (I.searches a S.there) (I.passed a S.there)
-own_passed z v a note part.Seq S I = λ alone out.
-    let t : Topics = (v.hand a).topics in
-    subst (λ (b : Bool). is_some (page_aimed (sequenced b t (v.words area.Seq 0))) ≡ true → (set : ℕ)
-    → (sequenced b t (v.words area.Seq 0)).search.set ≡ Some set
-    → PassedBelow (v.words area.Pool) set (page_looked (sequenced b t (v.words area.Seq 0)).host) (sequenced b t (v.words area.Seq 0)).search)
-    (sym (ap is_loose alone))
-    (I.passed a S.there alone out)
-own_passed z v a note (part.Host page) S I = λ alone. absurd (let none = S.needs.1 in cc (none, alone))
-own_passed z v a note part.Bring S I = λ alone out. absurd (let inside = S.needs.section in cc (inside, out))
-own_passed z v a note (part.Change new_) S I = λ alone out aimed.
-    let t : Topics = (v.hand a).topics in
-    I.passed a S.there alone out (aimed_looked t.owned t.host (Some (record { page = page_looked t.host; word = new_ })) S.needs.0.looked aimed)
-own_passed z v a note part.Claim S I = λ alone out aimed.
-    let t : Topics = (v.hand a).topics in
-    I.passed a S.there alone out (aimed_before t.owned (claimed t.walk t.claim (v.words area.PoolMap t.claim.at)) t.host S.needs.0 aimed)
-own_passed z v a note (part.Fill value) S I = λ alone out aimed.
-    I.passed a S.there alone out (aimed_filled (v.hand a).topics.owned (v.hand a).topics.host (answer v a note (part.Fill value)) aimed)
-own_passed z v a note (part.Role value) S I = λ alone out aimed.
-    I.passed a S.there alone out (aimed_filled (v.hand a).topics.owned (v.hand a).topics.host (answer v a note (part.Role value)) aimed)
-own_passed z v a note part.Clear S I = λ alone out aimed.
-    I.passed a S.there alone out (aimed_filled (v.hand a).topics.owned (v.hand a).topics.host (answer v a note part.Clear) aimed)
-own_passed z v a note part.GiveOld S I = λ alone out aimed.
-    let t : Topics = (v.hand a).topics in I.passed a S.there alone out (aimed_before t.owned None t.host S.needs.owns_none aimed)
-own_passed z v a note part.Give S I = λ alone. absurd (let other = S.needs.1 in cc (other, alone))
-own_passed z v a note (part.Link gfn) S I = λ alone. absurd (let shares = S.needs.0.shares in cc (shares, alone))
-own_passed z v a note (part.Fix gfn) S I = λ alone. absurd (let loose = S.needs.loose in cc (loose, alone))
-own_passed z v a note (part.Leaf gfn write) S I = λ alone. absurd (let shares = S.needs.0.shares in cc (shares, alone))
-own_passed z v a note _ S I = I.passed a S.there
+    slot_passed (v.words area.Pool) (v.hand a).topics (topics_now v a note part.Slot).row
+    (slot_aim (is_some (v.hand a).topics.search.set) (run_searched (v.hand a).topics) (searched (v.hand a).topics.search (answer_in (part_task part.Slot a (v.hand a).topics note) v.words))
+    (v.hand a).topics.row (v.hand a).topics.host)
+    S.needs.0 S.needs.1 S.needs.2 (I.searches a S.there) (I.passed a S.there)
+own_passed z v a note step S I = passed_before z v a note step refl S I
 
 pub passed_kept : (z : Sizes) (v : View) (a : ℕ) (step : PartStep) (note : ℕ) → IsPart z v a step → TopicsInvariant z v
     → (i : ℕ) → i < actors_of z → PassedPart ((part_stepped a step note v).words area.Pool) ((part_stepped a step note v).hand i).topics

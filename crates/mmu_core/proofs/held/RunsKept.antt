@@ -1,43 +1,31 @@
--- Each step of a part keeps it that the pages of a run are mapped alike, and that a page of which an invalidation is open is a small one.
-use Rattle.std.proofs.Common.{◌≡◌, ◌⊎◌, inl, inr, ◌+◌, ◌%◌, ◌<◌, ◌≤◌, ℕ, refl, sym, subst, ap, ◌∙◌, arith}
-use Rattle.std.specs.Prelude.{true, if◌then◌else◌, Option, Some, None, is_some, nat_lt, false}
-use Rattle.std.proofs.lemmas.Bool.{cases_lt}
+-- Each step of a part keeps it that the pages of a run are mapped alike.
+use Rattle.std.proofs.Common.{◌≡◌, ◌⊎◌, inl, inr, ◌+◌, ◌/◌, ◌%◌, ◌<◌, ◌≤◌, ℕ, refl, sym, subst, ap, ◌∙◌, arith}
+use Rattle.std.specs.Prelude.{false, Option, Some, None}
 use Rattle.core_views.specs.declared.sizes.Sizes.{Sizes}
-use Rattle.core_views.specs.declared.topics.HostLook.{HostLook}
-use Rattle.core_views.specs.declared.topics.Invalidated.{Invalidated}
-use Rattle.core_views.specs.declared.topics.OwnedPage.{OwnedPage}
+use Rattle.core_views.specs.declared.topics.PageRun.{PageRun}
 use Rattle.core_views.specs.Held.{Held}
-use Rattle.core_views.specs.Sizes.{actors_of, index_of}
+use Rattle.core_views.specs.Sizes.{actors_of}
 use Rattle.spte_words.specs.declared.area.Area.TheVariants as area
 use Rattle.spte_words.specs.Entries.{level_span}
 use Rattle.spte_words.specs.HostWords.{host_level}
 use Rattle.part_steps.specs.declared.part_step.PartStep.{PartStep}
 use Rattle.part_steps.specs.declared.part_step.PartStep.TheVariants as part
-use Rattle.part_steps.specs.InvalidationHoldings.{MayOpen, OpensOnSmallPage}
-use Rattle.part_steps.specs.InvalidationRange.{IsOnRun, page_aimed, page_of_look, run_or_none}
+use Rattle.part_steps.specs.PageRuns.{IsOnRun}
 use Rattle.part_steps.specs.PartTasks.{page_looked, word_looked}
 use Rattle.mmu_core.specs.invariant.HostWordsPart.{IsStill}
-use Rattle.mmu_core.specs.invariant.RunsPart.{IsOneRun, RunsPart, SmallChangesPart}
-use Rattle.mmu_core.specs.invariant.SearchPart.{IsOnPage}
+use Rattle.mmu_core.specs.invariant.RunsPart.{HasOwnerOf, IsInRun, IsOneRun, RunsPart}
+use Rattle.mmu_core.specs.invariant.SearchPart.{IsInvalidating, IsOnPage}
 use Rattle.mmu_core.specs.invariant.TopicsInvariant.{TopicsInvariant}
 use Rattle.mmu_core.specs.machine.View.{View, part_stepped}
-use Rattle.mmu_core.proofs.held.Invalidating.{topics_now}
-use Rattle.mmu_core.proofs.held.OpenFrames.{opened_by}
-use Rattle.mmu_core.proofs.held.PageRuns.{this_page}
+use Rattle.mmu_core.proofs.held.ChangedPages.{given_run, run_or_not, single_or_several}
+use Rattle.mmu_core.proofs.held.Invalidating.{NoneInvalidating, invalidating_after, raises_number}
+use Rattle.mmu_core.proofs.held.NextPages.{next_page, next_under, next_words}
+use Rattle.mmu_core.proofs.held.PageRuns.{on_changed, on_it, one_alone}
 use Rattle.mmu_core.proofs.machine.Columns.{at_upd}
 use Rattle.mmu_core.proofs.machine.PartStepping.{IsPart}
-use Rattle.mmu_core.proofs.held.WalkSpans.{one_frame}
-use Rattle.mmu_core.proofs.words.HostStays.{levels_stay, still_brought, still_frame, still_level, still_there, still_writes}
+use Rattle.mmu_core.proofs.words.HostStays.{still_brought, still_frame, still_level, still_there, still_writes}
 use Rattle.mmu_core.proofs.words.PartTopics.{behind_step, part_behind}
-use Rattle.mmu_core.proofs.held.OwnPages.{own_words}
-use Rattle.core_views.specs.HostChanges.{is_own}
-use Rattle.std.proofs.lemmas.Bool.Decides.{nat_tests}
-
--- ---- runs
-
--- A page is mapped as it is itself.
-pub alone_alike : (level : ℕ) (host : ℕ → ℕ) (page : ℕ) → level ≤ 1 → IsOneRun level host page page
-alone_alike level host page to = record { same_level = refl; writes = refl; frames = refl; present = λ more. absurd (omega (arith, to, more)) }
+use Rattle.mmu_core.proofs.words.RunSpans.{in_wider}
 
 -- Where the words of two pages stay, but that an absent one may be brought in, these are mapped as one still.
 still_run : (level : ℕ) (host after : ℕ → ℕ) (page other : ℕ) → IsStill (host page) (after page) → IsStill (host other) (after other)
@@ -58,97 +46,110 @@ module _ (z : Sizes) (v : View) (a : ℕ) (step : PartStep) (note : ℕ) (S : Is
   abbrev after : ℕ → ℕ
   after = (part_stepped a step note v).words area.Host
 
-  -- No invalidation of the page is open.
-  abbrev NoneOpenOn : ℕ → Type 0
-  NoneOpenOn page =
-      (i : ℕ) → i < actors_of z → (v.hand i).topics.invalidations.opened ≡ true → IsOnPage page (v.hand i).topics.invalidations.own → ⊥
+  abbrev NoneOn : ℕ → Type 0
+  NoneOn page = NoneInvalidating z v (IsOnPage page)
 
-  -- So its word stays, but that the page may be brought in.
-  word_still : (q : ℕ) → NoneOpenOn q → IsStill (host q) (after q)
-  word_still = by step S
+  -- A page that nobody is invalidating keeps its word, but that it may be brought in.
+  word_still : TopicsInvariant z v → (q : ℕ) → NoneOn q → IsStill (host q) (after q)
+  word_still I = by step S
     where
-      by : (step : PartStep) → IsPart z v a step → (q : ℕ) → NoneOpenOn q → IsStill (host q) ((part_stepped a step note v).words area.Host q)
+      by : (step : PartStep) → IsPart z v a step → (q : ℕ) → NoneOn q → IsStill (host q) ((part_stepped a step note v).words area.Host q)
       by part.Bring S =
-          at_upd (λ (q w : ℕ). NoneOpenOn q → IsStill (host q) w) host (page_looked (v.hand a).topics.host) _
+          at_upd (λ (q w : ℕ). NoneOn q → IsStill (host q) w) host (page_looked (v.hand a).topics.host) _
           (λ none. still_brought (host (page_looked (v.hand a).topics.host)) (host (page_looked (v.hand a).topics.host)) (word_looked (v.hand a).topics.host)
           S.needs.absent (inl refl)) (λ q ne none. inl refl)
       by (part.Change new_) S =
-          at_upd (λ (q w : ℕ). NoneOpenOn q → IsStill (host q) w) host (page_looked (v.hand a).topics.host) _
-          (λ none. absurd (none a S.there S.needs.0.opened S.needs.0.invalid)) (λ q ne none. inl refl)
+          at_upd (λ (q w : ℕ). NoneOn q → IsStill (host q) w) host (page_looked (v.hand a).topics.host) _
+          (λ none. absurd (none a S.there (record {
+            opened = S.needs.0.opened;
+            unraised = S.needs.0.unraised;
+            of_it = on_it (page_looked (v.hand a).topics.host) (v.hand a).topics.invalidations.own.pages S.needs.0.invalid;
+          }))) (λ q ne none. inl refl)
+      by part.ChangeNext S =
+          subst (λ (h : ℕ → ℕ). (q : ℕ) → NoneOn q → IsStill (host q) (h q)) (sym (next_words z v a S I note))
+          (at_upd (λ (q w : ℕ). NoneOn q → IsStill (host q) w) host (next_page z v a S I) _
+          (λ none. absurd (none a S.there (next_under z v a S I))) (λ q ne none. inl refl))
       by _ S = λ q none. inl refl
 
-  -- Nothing but a small page is changed, so runs of more than one page stay.
-  pub runs_kept : TopicsInvariant z v → RunsPart z (actors_of z) after (λ i. ((part_stepped a step note v).hand i).topics)
-  runs_kept I page level other there none from large in_run = by (cases_lt 1 level)
+  -- Nobody is invalidating the other pages of a run of which nobody is invalidating this one: such an invalidation would have all of the run's pages.
+  quiet_run : TopicsInvariant z v → (page level other : ℕ) → page < z.pages → NoneOn page → 1 ≤ level → level ≤ host_level (host page)
+      → IsInRun level page other → NoneOn other
+  quiet_run I page level other there none from large in_run j low U = by (v.hand j).topics.invalidations.own.pages refl U.of_it
     where
-      closed : (q : ℕ) → 2 ≤ host_level (host q) → NoneOpenOn q
-      closed q more i low opened of_page = let one = I.small_changes i q low opened of_page in omega (arith, one, more)
+      by : (pages : Option PageRun) → (v.hand j).topics.invalidations.own.pages ≡ pages → IsOnRun other pages → ⊥
+      by None is on = on
+      by (Some run) is on =
+          let O = I.own_pages j run low U.opened is in
+          let same = (I.runs page level other there none from large in_run).1.same_level in
+          let most = O.most other on in
+          let top = O.level.1 in
+          let wide : other / level_span run.level ≡ page / level_span run.level =
+          in_wider level run.level other page from (omega (arith, same, most, large)) (omega (arith, top)) in_run in
+          none j low (record { opened = U.opened; unraised = U.unraised; of_it = subst (IsOnRun page) (sym is) (sym wide ∙ on) })
+
+  -- Where the number isn't raised.
+  quiet_runs : raises_number step ≡ false → TopicsInvariant z v
+      → RunsPart z (actors_of z) after (λ i. ((part_behind a step note v).hand i).topics)
+  quiet_runs other_step I page level other there none from large in_run =
+      let R = I.runs page level other there here from was_large in_run in
+      (R.0, still_run level host after page other still (word_still I other (quiet_run I page level other there here from was_large in_run)) R.1, R.2)
+    where
+      here : NoneOn page
+      here j low U = none j low (invalidating_after z v a note (IsOnPage page) (λ won own_. on_changed won page own_.pages) step S other_step j U)
+
+      still : IsStill (host page) (after page)
+      still = word_still I page here
 
       was_large : level ≤ host_level (host page)
-      was_large = let same = levels_stay z v a step note S page in omega (arith, large, same)
+      was_large = let same = still_level (host page) (after page) still in omega (arith, large, same)
 
-      by : (1 < level) ⊎ (level ≤ 1) → (other < z.pages) × IsOneRun level after page other
-      by (inl above) =
-          let here = closed page (omega (arith, above, was_large)) in
-          let R = I.runs page level other there (λ j low U. here j low U.opened U.of_it) from was_large in_run in
-          let same = R.1.same_level in
-          let too = closed other (omega (arith, above, was_large, same)) in
-          (R.0, still_run level host after page other (word_still page here) (word_still other too) R.1)
-      by (inr lowest) =
-          subst (λ q. (q < z.pages) × IsOneRun level after page q) (sym (one_frame level other page (omega (arith, from, lowest)) in_run))
-          (there, alone_alike level after page lowest)
+-- Where it is, the pages of the invalidation for which it is are all changed.
+module _ (z : Sizes) (v : View) (a note seq : ℕ) (S : IsPart z v a (part.SetSeq seq)) (I : TopicsInvariant z v) where
+  abbrev words : ℕ → ℕ
+  words = v.words area.Host
 
--- ---- pages of open invalidations
+  -- Who was invalidating a page is so still, but for the actor that raises the number.
+  others_invalidating : (page : ℕ) → NoneInvalidating z (part_behind a (part.SetSeq seq) note v) (IsOnPage page)
+      → (IsOnPage page (v.hand a).topics.invalidations.own → ⊥) → NoneInvalidating z v (IsOnPage page)
+  others_invalidating page none off j low U =
+      at_upd (λ j (k : Held). j < actors_of z → (IsInvalidating (IsOnPage page) k.topics → ⊥) → IsInvalidating (IsOnPage page) (v.hand j).topics → ⊥) v.hand a
+      _ (λ there not_now W. off W.of_it) (λ j ne there not_now W. not_now W) j low (none j low) U
 
--- Who may change a host page has looked at it.
-aimed_look : (owned : Option OwnedPage) (host : Option HostLook) (page : ℕ) → (if is_some owned then None else page_of_look host) ≡ Some page
-    → (look : HostLook) × (host ≡ Some look) × (look.page ≡ page)
-aimed_look (Some o) host page is = absurd (cc is)
-aimed_look None None page is = absurd (cc is)
-aimed_look None (Some look) page is = (look, refl, cc is)
+  raised_runs : RunsPart z (actors_of z) words (λ i. ((part_behind a (part.SetSeq seq) note v).hand i).topics)
+  raised_runs page level other there none from large in_run = by (v.hand a).topics.invalidations.own.pages refl
+    where
+      outside : (IsOnPage page (v.hand a).topics.invalidations.own → ⊥)
+          → (other < z.pages) × IsOneRun level words page other × HasOwnerOf z page other
+      outside off = I.runs page level other there (others_invalidating page none off) from large in_run
 
-small_behind : (z : Sizes) (v : View) (a note : ℕ) (step : PartStep) → IsPart z v a step → TopicsInvariant z v
-    → SmallChangesPart (actors_of z) (v.words area.Host) (λ i. ((part_behind a step note v).hand i).topics)
-small_behind z v a note step S I i page =
-    at_upd (λ i (k : Held). i < actors_of z → k.topics.invalidations.opened ≡ true → IsOnPage page k.topics.invalidations.own
-    → host_level (v.words area.Host page) ≡ 1) v.hand a _ (λ there. own step S) (λ i ne there. I.small_changes i page there) i
-  where
-    -- So is the one of which an invalidation is opened: its owner has seen it.
-    opens : (v.hand a).topics.invalidations.opened ≡ false → OpensOnSmallPage (v.hand a) → MayOpen (v.hand a).topics
-        → IsOnPage page (v.hand a).topics.invalidations.own → host_level (v.words area.Host page) ≡ 1
-    opens closed small M on =
-        let is_aimed : page_aimed (v.hand a).topics ≡ Some page =
-        aimed (page_aimed (v.hand a).topics) (subst (IsOnRun page) (ap (λ (n : Invalidated). n.pages) M.own_ ∙ ap run_or_none (sym M.opening.aimed)) on) in
-        let L = aimed_look (v.hand a).topics.owned (v.hand a).topics.host page is_aimed in
-        let seen = small closed page is_aimed in
-        let low : page < z.pages = subst (λ q. q < z.pages) L.2 ((I.looks a S.there).there L.0 L.1) in
-        let still : IsStill L.0.word (v.words area.Host page) =
-        subst (λ q. IsStill L.0.word (v.words area.Host q)) L.2
-        (own_words z v a I S.there S.sizes (subst (λ (y : Sizes). index_of y (v.hand a).state.actor ≡ a) S.sizes S.own_place) L.0 L.1
-        (subst (λ q. is_own (v.hand a).state.sizes (v.hand a).state.actor q ≡ true) (sym L.2) seen.0)) in
-        let level : host_level (v.words area.Host page) ≡ host_level L.0.word = still_level L.0.word (v.words area.Host page) still in
-        let word : word_looked (v.hand a).topics.host ≡ L.0.word = ap word_looked L.1 in
-        let most : host_level L.0.word ≤ 1 = (let test : nat_lt 1 (host_level L.0.word) ≡ false = sym (ap (λ w. nat_lt 1 (host_level w)) word) ∙ seen.1 in
-        grind (arith, nat_tests)) in
-        let least = (I.hosts page low).2 in
-        omega (arith, level, most, least)
-      where
-        aimed : (o : Option ℕ) → IsOnRun page (run_or_none o) → o ≡ Some page
-        aimed None on = absurd on
-        aimed (Some p) on = ap Some (sym (this_page page p on))
+      of_run : (run : PageRun) → (v.hand a).topics.invalidations.own.pages ≡ Some run → IsOnRun page (Some run) → (run.level ≤ 1) ⊎ (1 < run.level)
+          → (other < z.pages) × IsOneRun level words page other × HasOwnerOf z page other
+      of_run run is on (inl single) =
+          let O = I.own_pages a run S.there S.needs.0.opened is in
+          let most = O.most page on in
+          one_alone z level page other words there from (omega (arith, large, most, single)) in_run
+      of_run run is on (inr several) =
+          let O = I.own_pages a run S.there S.needs.0.opened is in
+          let C = I.changes a run S.there S.needs.0.opened S.needs.0.unraised is (omega (arith, several)) in
+          given_run z S.is_sizes a words run (omega (arith, several)) O C (S.needs.0.all run is (omega (arith, several))) level page other there on from large
+          in_run
 
-    own : (step : PartStep) → IsPart z v a step → (topics_now v a note step).invalidations.opened ≡ true
-        → IsOnPage page (topics_now v a note step).invalidations.own → host_level (v.words area.Host page) ≡ 1
-    own (part.SetStart first gfn) T is = absurd (let closed = T.needs.0.opening.closed in cc (is, closed))
-    own (part.SetEnd last gfn) T is = absurd (let closed = T.needs.0.opening.closed in cc (is, closed))
-    own (part.SetCount count) T more =
-        let closed = opened_by z v a I T.there (v.hand a).topics.invalidations.opened count refl T.needs.0.is more in
-        opens closed T.needs.1 (T.needs.0.opens closed)
-    own _ T is = I.small_changes a page T.there is
+      by : (pages : Option PageRun) → (v.hand a).topics.invalidations.own.pages ≡ pages
+          → (other < z.pages) × IsOneRun level words page other × HasOwnerOf z page other
+      by None is = outside (λ on. subst (IsOnRun page) is on)
+      by (Some run) is = each (run_or_not run page)
+        where
+          each : IsOnRun page (Some run) ⊎ (IsOnRun page (Some run) → ⊥) → (other < z.pages) × IsOneRun level words page other × HasOwnerOf z page other
+          each (inl on) = of_run run is on (single_or_several run)
+          each (inr off) = outside (λ on. off (subst (IsOnRun page) is on))
 
-pub small_changes_kept : (z : Sizes) (v : View) (a : ℕ) (step : PartStep) (note : ℕ) → IsPart z v a step → TopicsInvariant z v
-    → SmallChangesPart (actors_of z) ((part_stepped a step note v).words area.Host) (λ i. ((part_stepped a step note v).hand i).topics)
-small_changes_kept z v a step note S I i page lt opened of_page =
-    levels_stay z v a step note S page
-    ∙ behind_step (λ (w : View). SmallChangesPart (actors_of z) (v.words area.Host) (λ i. (w.hand i).topics)) z v a step note S
-    (small_behind z v a note step S I) i page lt opened of_page
+runs_behind : (z : Sizes) (v : View) (a note : ℕ) (step : PartStep) → IsPart z v a step → TopicsInvariant z v
+    → RunsPart z (actors_of z) ((part_stepped a step note v).words area.Host) (λ i. ((part_behind a step note v).hand i).topics)
+runs_behind z v a note (part.SetSeq seq) S I = raised_runs z v a note seq S I
+runs_behind z v a note step S I = quiet_runs z v a step note S refl I
+
+pub runs_kept : (z : Sizes) (v : View) (a : ℕ) (step : PartStep) (note : ℕ) → IsPart z v a step → TopicsInvariant z v
+    → RunsPart z (actors_of z) ((part_stepped a step note v).words area.Host) (λ i. ((part_stepped a step note v).hand i).topics)
+runs_kept z v a step note S I =
+    behind_step (λ (w : View). RunsPart z (actors_of z) ((part_stepped a step note v).words area.Host) (λ i. (w.hand i).topics)) z v a step note S
+    (runs_behind z v a note step S I)

@@ -1,6 +1,6 @@
 -- Each step of a part keeps that open invalidations of a host page are of the guest frames that the published slots give to it.
 use Rattle.std.proofs.Common.{◌≡◌, ◌≢◌, ◌⊎◌, inl, inr, ◌+◌, ◌-◌, ◌<◌, ℕ, refl, sym, subst, ap, ◌∙◌, arith}
-use Rattle.std.specs.Prelude.{Bool, true, false, ◌==◌, ◌&&◌, ◌||◌, if◌then◌else◌, Some, Option, is_some, None}
+use Rattle.std.specs.Prelude.{Bool, true, false, ◌==◌, ◌&&◌, ◌||◌, if◌then◌else◌, nat_lt, Some, Option, is_some, None}
 use Rattle.std.proofs.lemmas.Bool.Decides.{nat_tests}
 use Rattle.core_views.specs.declared.sizes.Sizes.{Sizes}
 use Rattle.core_views.specs.declared.topics.HostLook.{HostLook}
@@ -18,14 +18,18 @@ use Rattle.part_steps.specs.declared.part_step.PartStep.TheVariants as part
 use Rattle.part_steps.specs.declared.invalidations.Target.{Target}
 use Rattle.part_steps.specs.declared.invalidations.Target.TheVariants as aim
 use Rattle.part_steps.specs.InvalidationHoldings.{IsOpening, MayOpen, knows_count}
-use Rattle.part_steps.specs.InvalidationRange.{gfn_behind, has_found, invalidated_by, page_looked, page_of_look, run_of}
+use Rattle.core_views.specs.declared.topics.HostRow.{HostRow}
+use Rattle.core_views.specs.declared.topics.PageRun.{PageRun}
+use Rattle.part_steps.specs.InvalidationRange.{gfn_behind, has_found, invalidated_by, page_looked, run_of_look}
+use Rattle.part_steps.specs.PageRuns.{changed_more, is_single, level_looked, run_of}
+use Rattle.part_steps.specs.PartTasks.{page_to_change, word_next}
 use Rattle.mmu_core.specs.invariant.HeldPart.{HoldsOld}
-use Rattle.mmu_core.specs.invariant.InvalidatedPart.{IsOfPages, ScopePart, SlotGives}
+use Rattle.mmu_core.specs.invariant.InvalidatedPart.{GivesOne, HasCollected, IsOfPages, ScopePart, SlotGives}
 use Rattle.mmu_core.specs.invariant.SlotSetPart.{IsLiveIn}
 use Rattle.mmu_core.specs.invariant.TopicsInvariant.{TopicsInvariant}
 use Rattle.mmu_core.specs.machine.View.{View, part_stepped, answer_in}
 use Rattle.mmu_core.proofs.held.OpenFrames.{opened_by, others_closed}
-use Rattle.mmu_core.proofs.held.PageRuns.{this_page}
+use Rattle.mmu_core.proofs.held.PageRuns.{on_changed, some_changed, this_page, was_on}
 use Rattle.mmu_core.proofs.machine.Columns.{at_upd}
 use Rattle.mmu_core.proofs.machine.PartStepping.{AreApart, IsPart, is_publish}
 use Rattle.mmu_core.proofs.slots.LiveStay.{StayLive}
@@ -43,11 +47,12 @@ same_scope : (before after : ℕ → ℕ) (set other : ℕ) (own_ : Invalidated)
     → IsOfPages before set own_ → IsOfPages after other own_
 same_scope before after set other own_ on back O = record {
   covers = λ page gfn in_run G. O.covers page gfn in_run (record { id = G.id; slot = G.slot; live = back G.id G.slot G.live; has = G.has; is = G.is });
-  only = λ gfn within.
-      let P = O.only gfn within in
-      let G = P.2 in
-      (P.0, P.1, record { id = G.id; slot = G.slot; live = on G.id G.slot G.live; has = G.has; is = G.is });
+  first = λ some. given (O.first some);
+  last = λ some. given (O.last some);
 }
+  where
+    given : {gfn : ℕ} → GivesOne before set own_.pages gfn → GivesOne after other own_.pages gfn
+    given P = let G = P.2 in (P.0, P.1, record { id = G.id; slot = G.slot; live = on G.id G.slot G.live; has = G.has; is = G.is })
 
 -- What the search has found is of the frames that the slots of its set give to the page.
 scope_found : (pool : ℕ → ℕ) (set page : ℕ) (found : Bool) (id : ℕ) (slot : SlotOf) (start end_ : ℕ) → AreApart pool set
@@ -63,30 +68,44 @@ scope_found pool set page true id slot start end_ apart starts ends there none =
           let same = ap (gfn_behind page) (apart page G.id id G.slot slot G.live T.0 G.has T.1) in
           let is = G.is in
           (omega (arith, is, same, starts), omega (arith, is, same, ends));
-      only = λ gfn within. (
-        page,
-        refl,
-        record {
-          id = id;
-          slot = slot;
-          live = T.0;
-          has = T.1;
-          is = let low = within.0 in let high = within.1 in omega (arith, low, high, starts, ends);
-        },
-      );
+      first = λ some. (page, refl, record { id = id; slot = slot; live = T.0; has = T.1; is = starts });
+      last = λ some. (page, refl, record { id = id; slot = slot; live = T.0; has = T.1; is = omega (arith, ends) });
     }
 scope_found pool set page false id slot start end_ apart starts ends there none = record {
   covers = λ other gfn on given.
       let G = subst (λ p. SlotGives pool set p gfn) (this_page other page on) given in absurd (none refl G.id G.slot G.live G.has);
-  only = λ gfn within. absurd (let low = within.0 in let high = within.1 in omega (arith, low, high, starts, ends));
+  first = λ some. absurd (omega (arith, some, starts, ends));
+  last = λ some. absurd (omega (arith, some, starts, ends));
 }
 
--- The host page that may be changed is the one that was looked at.
-looked_page : (owned : Option OwnedPage) (host : Option HostLook) (page : ℕ) → (if is_some owned then None else page_of_look host) ≡ Some page
-    → page_looked host ≡ page
-looked_page (Some o) host page is = absurd (cc is)
-looked_page None None page is = absurd (cc is)
-looked_page None (Some look) page is = cc is
+-- What the search for a run of several pages has collected from all slots is of the frames that these give to it.
+scope_collected : (pool : ℕ → ℕ) (set : ℕ) (run : PageRun) (row : HostRow) → HasCollected pool set 32 run row
+    → IsOfPages pool set (record { pages = Some run; start = row.start; end = row.end })
+scope_collected pool set run row C = record {
+  covers = λ page gfn on G.
+      let low = G.live.low in
+      let is = G.is in
+      let B = C.covers G.id page G.slot G.live (omega (arith, low)) on G.has in
+      (omega (arith, is, B.0), omega (arith, is, B.1));
+  first = C.first;
+  last = λ some. C.last (omega (arith, some));
+}
+
+-- The one host page that may be changed is the one that was looked at.
+looked_page : (owned : Option OwnedPage) (host : Option HostLook) (row : HostRow) (page : ℕ)
+    → (if is_some owned then None else run_of_look host row) ≡ Some (run_of page) → page_looked host ≡ page
+looked_page (Some o) host row page is = absurd (cc is)
+looked_page None None row page is = absurd (cc is)
+looked_page None (Some look) row page is = by (nat_lt 1 (level_looked look row)) (cc is)
+  where
+    by : (b : Bool) → (if b then record { first = look.page; level = level_looked look row; word = look.word; changed = 0 } else run_of look.page) ≡ run_of page
+        → look.page ≡ page
+    by true e = ap (λ (r : PageRun). r.first) e
+    by false e = ap (λ (r : PageRun). r.first) e
+
+some_set : (o : Option ℕ) → is_some o ≡ true → (set : ℕ) × (o ≡ Some set)
+some_set None some = absurd (cc some)
+some_set (Some set) some = (set, refl)
 
 module _ (z : Sizes) (v : View) (a : ℕ) (I : TopicsInvariant z v) (there : a < actors_of z) where
   abbrev t : Topics
@@ -100,7 +119,7 @@ module _ (z : Sizes) (v : View) (a : ℕ) (I : TopicsInvariant z v) (there : a <
       by (inl e) = e
       by (inr H) = absurd (let inside = H.section in cc (out, inside))
 
-  page_scope : (page : ℕ) → IsOpening (aim.Page page) t → t.invalidations.own ≡ invalidated_by (aim.Page page) t.search
+  page_scope : (page : ℕ) → IsOpening (aim.Page page) t → t.invalidations.own ≡ invalidated_by (aim.Page page) t.search t.row
       → AreApart (v.words area.Pool) (v.words area.Slots 0) → IsOfPages (v.words area.Pool) (v.words area.Slots 0) t.invalidations.own
   page_scope page O own_ apart =
       subst (IsOfPages (v.words area.Pool) (v.words area.Slots 0)) (sym own_)
@@ -108,14 +127,10 @@ module _ (z : Sizes) (v : View) (a : ℕ) (I : TopicsInvariant z v) (there : a <
       (λ e. let B = both t.search.whole (has_host_page page t.search.slot) e in (found B.0, B.1)) passed)
     where
       looked : page_looked t.host ≡ page
-      looked = looked_page t.owned t.host page O.aimed
+      looked = looked_page t.owned t.host t.row page O.aimed.0
 
       held : (set : ℕ) × (t.search.set ≡ Some set)
       held = some_set t.search.set O.holds_set
-        where
-          some_set : (o : Option ℕ) → is_some o ≡ true → (set : ℕ) × (o ≡ Some set)
-          some_set None some = absurd (cc some)
-          some_set (Some set) some = (set, refl)
 
       published : held.0 ≡ v.words area.Slots 0
       published = searched_published held.0 O.outside held.1
@@ -131,7 +146,7 @@ module _ (z : Sizes) (v : View) (a : ℕ) (I : TopicsInvariant z v) (there : a <
           let over = O.searched in let end_ = or_over (has_found page t.search) (t.search.id == 32) none over in grind (arith, nat_tests) in
           let low = L.low in
           let P =
-          I.passed a there O.alone O.outside (ap (λ (o : Option ℕ). is_some o) O.aimed) held.0 held.1 i other
+          I.passed a there O.alone O.outside (ap is_single O.aimed.0) held.0 held.1 i other
           (subst (λ s. IsLiveIn (v.words area.Pool) s i other) (sym published) L) (omega (arith, low, last))
           (ap (λ p. has_host_page p other) looked ∙ has) in
           let yes : has_found page t.search ≡ true = ap (λ (b : Bool). b && has_host_page page t.search.slot) P.0 ∙ (ap (has_host_page page) (sym P.1) ∙ has) in
@@ -141,14 +156,35 @@ module _ (z : Sizes) (v : View) (a : ℕ) (I : TopicsInvariant z v) (there : a <
           or_over true y e over = absurd (cc e)
           or_over false y e over = over
 
+  run_scope : (run : PageRun) → IsOpening (aim.Run run) t → t.invalidations.own ≡ invalidated_by (aim.Run run) t.search t.row
+      → IsOfPages (v.words area.Pool) (v.words area.Slots 0) t.invalidations.own
+  run_scope run O own_ =
+      let held = some_set t.search.set O.holds_set in
+      let C = I.collected a there O.alone O.outside run O.aimed.0 O.aimed.1 held.0 held.1 in
+      let over : t.search.id ≡ 32 = (let last = O.searched in grind (arith, nat_tests)) in
+      subst (IsOfPages (v.words area.Pool) (v.words area.Slots 0)) (sym own_)
+      (scope_collected (v.words area.Pool) (v.words area.Slots 0) run t.row
+      (subst (λ s. HasCollected (v.words area.Pool) s 32 run t.row) (searched_published held.0 O.outside held.1)
+      (subst (λ n. HasCollected (v.words area.Pool) held.0 n run t.row) over C)))
+
   opens_scope : MayOpen t → AreApart (v.words area.Pool) (v.words area.Slots 0) → is_some t.invalidations.own.pages ≡ true
       → IsOfPages (v.words area.Pool) (v.words area.Slots 0) t.invalidations.own
   opens_scope M apart some = by M.target M.opening M.own_
     where
-      by : (target : Target) → IsOpening target t → t.invalidations.own ≡ invalidated_by target t.search
+      by : (target : Target) → IsOpening target t → t.invalidations.own ≡ invalidated_by target t.search t.row
           → IsOfPages (v.words area.Pool) (v.words area.Slots 0) t.invalidations.own
       by (aim.Slot slot) O own_ = absurd (let none = ap (λ (n : Invalidated). is_some n.pages) own_ in cc (none, some))
       by (aim.Page page) O own_ = page_scope page O own_ apart
+      by (aim.Run run) O own_ = run_scope run O own_
+
+-- It is of the same frames once one more page of its run is changed.
+changed_scope : (pool : ℕ → ℕ) (set : ℕ) (won : Bool) (own_ : Invalidated) → IsOfPages pool set own_
+    → IsOfPages pool set (record own_ { pages = changed_more won own_.pages })
+changed_scope pool set won own_ O = record {
+  covers = λ page gfn on. O.covers page gfn (was_on won page own_.pages on);
+  first = λ some. let P = O.first some in (P.0, on_changed won P.0 own_.pages P.1, P.2);
+  last = λ some. let P = O.last some in (P.0, on_changed won P.0 own_.pages P.1, P.2);
+}
 
 -- of the words as they were
 abbrev ScopesIn : Sizes → (ℕ → ℕ) → ℕ → View → Type 0
@@ -170,6 +206,10 @@ scopes_behind z v a note step S I =
     own (part.SetCount count) T more =
         opens_scope z v a I T.there (T.needs.0.opens (opened_by z v a I T.there (v.hand a).topics.invalidations.opened count refl T.needs.0.is more))
         T.replaces.apart
+    own part.ChangeNext T is = λ some.
+        let n : Invalidated = (v.hand a).topics.invalidations.own in
+        let won : Bool = v.words area.Host (page_to_change n.pages) == word_next n.pages in
+        changed_scope (v.words area.Pool) (v.words area.Slots 0) won n (I.scopes a T.there is (sym (some_changed won n.pages) ∙ some))
     own _ T is = I.scopes a T.there is
 
 -- No actor has an invalidation of a host page open.

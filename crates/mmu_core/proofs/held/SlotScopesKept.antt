@@ -1,6 +1,6 @@
 -- Each step of a part keeps it that an open invalidation of no host page is of a live slot, until its actor publishes.
 use Rattle.std.proofs.Common.{◌≡◌, ◌<◌, ℕ, refl, sym, subst, ◌∙◌}
-use Rattle.std.specs.Prelude.{Bool, true, false, None}
+use Rattle.std.specs.Prelude.{◌==◌, Bool, true, false, None}
 use Rattle.core_views.specs.declared.sizes.Sizes.{Sizes}
 use Rattle.core_views.specs.declared.topics.Invalidated.{Invalidated}
 use Rattle.core_views.specs.declared.topics.Topics.{Topics}
@@ -22,6 +22,8 @@ use Rattle.mmu_core.proofs.slots.LiveStays.{SetStays, published_stays}
 use Rattle.mmu_core.proofs.slots.SlotsStay.{is_live_stays}
 use Rattle.mmu_core.proofs.words.PartTopics.{behind_step, part_behind}
 use Rattle.mmu_core.proofs.words.PartWords.{slots_are, slots_same}
+use Rattle.mmu_core.proofs.held.PageRuns.{changed_none}
+use Rattle.part_steps.specs.PartTasks.{page_to_change, word_next}
 
 -- of the words as they were
 abbrev SlotsIn : Sizes → View → View → Type 0
@@ -43,6 +45,9 @@ slots_behind z v a note step S I =
     own (part.SetCount count) T more = λ of_none unretired.
         T.replaces.of_slot (opened_by z v a I T.there (v.hand a).topics.invalidations.opened count refl T.needs.0.is more) of_none
     own part.Publish T is = λ of_none unretired. absurd (cc unretired)
+    own part.ChangeNext T is = λ of_none unretired.
+        absurd (changed_none (v.words area.Host (page_to_change (v.hand a).topics.invalidations.own.pages) == word_next (v.hand a).topics.invalidations.own.pages)
+        (v.hand a).topics.invalidations.own.pages T.needs.is of_none)
     own part.GiveOld T is = absurd (let closed = T.needs.closed in cc (is, closed))
     own part.Give T is = λ of_none unretired.
         I.slot_scopes a T.there is of_none (sym (still_there (v.hand a).topics.owned (v.hand a).topics.retired T.needs.0) ∙ unretired)

@@ -53,7 +53,11 @@ use Rattle.mmu_core.proofs.pages.ZappedKept.{zapped_kept}
 use Rattle.mmu_core.proofs.held.PassedKept.{passed_kept}
 use Rattle.mmu_core.proofs.held.ScopesKept.{scopes_kept}
 use Rattle.mmu_core.proofs.held.SlotScopesKept.{slot_scopes_kept}
-use Rattle.mmu_core.proofs.held.RunsKept.{runs_kept, small_changes_kept}
+use Rattle.mmu_core.proofs.held.RunsKept.{runs_kept}
+use Rattle.mmu_core.proofs.held.ChangesKept.{changes_kept, own_pages_kept}
+use Rattle.mmu_core.proofs.held.CollectedKept.{collected_kept}
+use Rattle.mmu_core.proofs.held.LowRowsKept.{low_rows_kept}
+use Rattle.mmu_core.proofs.held.OwnRowsKept.{own_rows_kept}
 
 -- Each step of a part does.
 pub topics_part_kept : (z : Sizes) (v : View) (a : ℕ) (step : PartStep) (note : ℕ) → IsPart z v a step → TopicsInvariant z v
@@ -90,7 +94,11 @@ topics_part_kept z v a step note S I = record {
   scopes = scopes_kept z v a step note S I;
   slot_scopes = slot_scopes_kept z v a step note S I;
   runs = runs_kept z v a step note S I;
-  small_changes = small_changes_kept z v a step note S I;
+  own_pages = own_pages_kept z v a step note S I;
+  changes = changes_kept z v a step note S I;
+  own_rows = own_rows_kept z v a step note S I;
+  collected = collected_kept z v a step note S I;
+  low_rows = low_rows_kept z v a step note S I;
   swept = swept_kept z v a step note S I;
   zapped = zapped_kept z v a step note S I;
   few_ended = few_kept z v a step note S I;

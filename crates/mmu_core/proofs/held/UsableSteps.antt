@@ -1,6 +1,6 @@
 -- Each step of a part keeps it that what a virtual processor may use of what it has cached agrees with slots and host.
 use Rattle.std.proofs.Common.{◌≡◌, ◌⊎◌, inl, inr, ◌<◌, ◌≤◌, ℕ, List, [], refl, sym, subst, ap, ◌∙◌, arith}
-use Rattle.std.specs.Prelude.{All, Bool, true, false, ◌≢◌, not, if◌then◌else◌}
+use Rattle.std.specs.Prelude.{All, Bool, true, false, ◌≢◌, not, if◌then◌else◌, is_some}
 use Rattle.std.proofs.lemmas.List.Elements.{All-nil}
 use Rattle.circular_buffer.specs.Buffer.{Buffer, buffer}
 use Rattle.core_views.specs.declared.cache.Translation.{Translation}
@@ -24,10 +24,9 @@ use Rattle.part_steps.specs.declared.part_step.PartStep.TheVariants as part
 use Rattle.part_steps.specs.declared.task.Task.{Task}
 use Rattle.part_steps.specs.PartTasks.{page_looked, page_owned, part_task, word_looked}
 use Rattle.part_steps.specs.PartTopics.{part_topics}
-use Rattle.part_steps.specs.SlotWords.{page_of}
 use Rattle.part_steps.specs.Tasks.{kind_of_task}
-use Rattle.mmu_core.specs.invariant.CachedPart.{AgreePart, IsLeafFor, IsTranslationFor}
-use Rattle.mmu_core.specs.invariant.InvalidatedPart.{SlotGives, IsClean, IsIn, IsOfPages, UsablePart, may_use}
+use Rattle.mmu_core.specs.invariant.CachedPart.{AgreePart, IsTranslationFor}
+use Rattle.mmu_core.specs.invariant.InvalidatedPart.{IsClean, IsOfPages, UsablePart, may_use}
 use Rattle.mmu_core.specs.invariant.SlotSetPart.{IsLiveIn}
 use Rattle.mmu_core.specs.invariant.TopicsInvariant.{TopicsInvariant}
 use Rattle.mmu_core.specs.forms.access.Cached.{asks_flush, flushed, flushed_by}
@@ -35,13 +34,15 @@ use Rattle.mmu_core.specs.machine.View.{View, answer_in, part_stepped, upd, word
 use Rattle.mmu_core.proofs.held.KeptEmpty.{page_empty, slot_empty}
 use Rattle.mmu_core.proofs.held.FlushChanges.{begun_asks, cached_more, ended_asks, left_asks, none_asked, used_asked, used_gone}
 use Rattle.mmu_core.proofs.held.FlushSteps.{FlushAt, FlushFor, KeepsClean, asked_there}
-use Rattle.mmu_core.proofs.held.FreshFrames.{behind_it, leaf_brought, leaf_same}
+use Rattle.mmu_core.proofs.held.FreshFrames.{leaf_brought, leaf_elsewhere}
 use Rattle.mmu_core.proofs.machine.Columns.{at_upd, same_or, upd_other, upd_same}
 use Rattle.mmu_core.proofs.machine.PartStepping.{IsFlushedOut, IsPart, flushed_within}
 use Rattle.mmu_core.proofs.slots.LiveStay.{translations_stay}
 use Rattle.mmu_core.proofs.slots.LiveStays.{live_in_stays, part_live_stays}
-use Rattle.mmu_core.proofs.held.PageRuns.{some_run}
 use Rattle.part_steps.specs.InvalidationRange.{IsOnRun}
+use Rattle.mmu_core.proofs.held.PageRuns.{on_it}
+use Rattle.mmu_core.proofs.held.NextPages.{next_on_own, next_page, next_words}
+use Rattle.mmu_core.proofs.held.KeptEmpty.{some_empty}
 
 -- what may be used of what is cached, in a view
 abbrev pub UsableAt : Sizes → View → Type 0
@@ -52,17 +53,6 @@ abbrev pub Agrees : (Area → ℕ → ℕ) → List Translation → Type 0
 Agrees words cached = AgreePart (words area.Pool) (words area.Host) (words area.Slots 0) cached
 
 -- ---- Slots and host change.
-
--- An invalidation is of a page, and not of this guest frame: where the page's host word changes, the leaf of the guest frame is the same.
-leaf_elsewhere : (pool host : ℕ → ℕ) (set page x : ℕ) (own_ : Invalidated) (level gfn leaf : ℕ) → IsOfPages pool set own_ → IsOnRun page own_.pages
-    → (IsIn own_ gfn → ⊥) → IsLeafFor pool host set level gfn leaf → IsLeafFor pool (upd host page x) set level gfn leaf
-leaf_elsewhere pool host set page x own_ level gfn leaf scope on out L = leaf_same pool host set page x level gfn leaf L (λ e. absurd (apart e))
-  where
-    apart : page_of L.slot gfn ≢ page
-    apart e =
-        let B = behind_it L.slot gfn L.holds in
-        let given : SlotGives pool set (page_of L.slot gfn) gfn = record { id = L.id; slot = L.slot; live = L.live; has = B.0; is = B.1 } in
-        out (scope.covers page gfn on (subst (λ p. SlotGives pool set p gfn) e given))
 
 -- So what is cached agrees still, where nothing of it is of the invalidation's frames.
 agree_elsewhere : (pool host : ℕ → ℕ) (set page x : ℕ) (own_ : Invalidated) (cached : List Translation) → IsOfPages pool set own_ → IsOnRun page own_.pages
@@ -96,6 +86,7 @@ agree_published pool host vcpus set page t cached stay clean agrees k d lt gfn o
 -- Where the step changes a host word, nothing cached is of the frames of this invalidation; nor where it publishes a slot set, if the invalidation is flushed.
 abbrev CleanFor : PartStep → ℕ → Topics → List Translation → Type 0
 CleanFor (part.Change new_) vcpus t cached = IsClean t.invalidations.own cached
+CleanFor part.ChangeNext vcpus t cached = IsClean t.invalidations.own cached
 CleanFor part.Publish vcpus t cached =
     t.invalidations.opened ≡ true → vcpus ≤ t.flush.asked → vcpus ≤ t.flush.awaited → IsClean t.invalidations.own cached
 CleanFor _ vcpus t cached = Unit {0}
@@ -108,8 +99,12 @@ agrees_behind z v a part.Bring note cached S I clean agrees = λ k d lt gfn over
     _ gfn _ S.needs.absent (agrees k d lt gfn over)
 agrees_behind z v a (part.Change new_) note cached S I clean agrees =
     agree_elsewhere (v.words area.Pool) (v.words area.Host) (v.words area.Slots 0) (page_looked (v.hand a).topics.host) _ (v.hand a).topics.invalidations.own
-    cached (I.scopes a S.there S.needs.0.opened (some_run (page_looked (v.hand a).topics.host) (v.hand a).topics.invalidations.own.pages S.needs.0.invalid))
-    S.needs.0.invalid clean agrees
+    cached (I.scopes a S.there S.needs.0.opened (ap is_some S.needs.0.invalid))
+    (on_it (page_looked (v.hand a).topics.host) (v.hand a).topics.invalidations.own.pages S.needs.0.invalid) clean agrees
+agrees_behind z v a part.ChangeNext note cached S I clean agrees =
+    subst (λ (h : ℕ → ℕ). AgreePart (v.words area.Pool) h (v.words area.Slots 0) cached) (sym (next_words z v a S I note))
+    (agree_elsewhere (v.words area.Pool) (v.words area.Host) (v.words area.Slots 0) (next_page z v a S I) _ (v.hand a).topics.invalidations.own
+    cached (I.scopes a S.there S.needs.opened (ap is_some S.needs.is)) (next_on_own z v a S I) clean agrees)
 agrees_behind z v a part.Publish note cached S I clean agrees =
     agree_published (v.words area.Pool) (v.words area.Host) z.vcpus (v.words area.Slots 0) (page_owned (v.hand a).topics.owned) (v.hand a).topics cached
     S.replaces.stay clean agrees
@@ -198,8 +193,12 @@ module _ (z : Sizes) (v : View) (a note : ℕ) (c : Buffer Translation) (g : Hel
       → FlushFor h.topics k (before k) stay cached → may_use (before k) stay ≡ true → CleanFor step z.vcpus h.topics cached
   clean_for (part.Change new_) k stay S low F may =
       let sizes : h.state.sizes.vcpus ≡ z.vcpus = ap (λ (y : Sizes). y.vcpus) S.sizes in
-      (F (page_empty h.topics _ S.needs.0.opened S.needs.0.invalid)).awaits (omega (arith, low, sizes, S.needs.0.asked))
-      (omega (arith, low, sizes, S.needs.0.awaited)) may
+      (F (page_empty h.topics _ S.needs.0.opened (on_it (page_looked h.topics.host) h.topics.invalidations.own.pages S.needs.0.invalid))).awaits
+      (omega (arith, low, sizes, S.needs.0.asked)) (omega (arith, low, sizes, S.needs.0.awaited)) may
+  clean_for part.ChangeNext k stay S low F may =
+      let sizes : h.state.sizes.vcpus ≡ z.vcpus = ap (λ (y : Sizes). y.vcpus) S.sizes in
+      (F (some_empty h.topics S.needs.opened (ap is_some S.needs.is))).awaits (omega (arith, low, sizes, S.needs.asked))
+      (omega (arith, low, sizes, S.needs.awaited)) may
   clean_for part.Publish k stay S low F may = λ opened asked awaited.
       (F (slot_empty h.topics opened S.needs.none_retired)).awaits (omega (arith, low, asked)) (omega (arith, low, awaited)) may
   clean_for _ k stay S low F may = tt

@@ -23,9 +23,11 @@ use Rattle.mmu_core.specs.machine.Outcomes.{place_after}
 use Rattle.mmu_core.specs.machine.Steps.{task_at}
 use Rattle.mmu_core.proofs.forms.access.AccessKept.{access_keeps}
 use Rattle.mmu_core.proofs.forms.host.HostKept.{host_keeps}
+use Rattle.mmu_core.proofs.forms.host_run.HostRunKept.{host_run_keeps}
 use Rattle.mmu_core.proofs.forms.log.LogKept.{log_keeps}
 use Rattle.mmu_core.proofs.forms.slot_change.SlotChangeKeeps.{slot_change_keeps}
 pub use Rattle.mmu_core.proofs.forms.slot_change.SlotChangeKeeps.{makes_slot_change}
+use Rattle.mmu_core.proofs.forms.split.SplitKept.{split_keeps}
 use Rattle.mmu_core.proofs.invariant.FormKept.{FormKept}
 
 -- what the invariant asks of each place
@@ -39,7 +41,9 @@ keeps_at place.Between c = record {
 keeps_at (place.Access p) c = access_keeps p c
 keeps_at (place.SlotChange p) c = slot_change_keeps p c
 keeps_at (place.Host p) c = host_keeps p c
+keeps_at (place.HostRun p) c = host_run_keeps p c
 keeps_at (place.Log p) c = log_keeps p c
+keeps_at (place.Split p) c = split_keeps p c
 
 -- The step of a line has what it needs.
 pub needs_at : (z : Sizes) (v : View) (a : ℕ) (line : Line) (command : Command) (p : Place) → IsStep z v a line command p → Invariant z v

@@ -1,5 +1,6 @@
 -- What a line rests on, from the invariant; and that the word of its next step is one of the words.
 use Rattle.core_views.specs.declared.trace.HostChange.TheVariants.{Move, Evict, Protect, Allow}
+use Rattle.core_views.specs.declared.trace.RunChange.TheVariants.{Huge, Small}
 use Rattle.std.proofs.Common.{◌≡◌, ◌⊎◌, inl, inr, ◌<◌, ◌≤◌, ℕ, length, refl, sym, subst, ap, ◌∙◌, arith}
 use Rattle.std.specs.Prelude.{Bool, Option, Some, None}
 use Rattle.std.proofs.Math.Logic.{∥∥₁_elim, ∥∥₁_map}
@@ -18,7 +19,7 @@ use Rattle.core_views.specs.declared.topics.MapClaim.{MapClaim}
 use Rattle.core_views.specs.declared.topics.OwnedPage.{OwnedPage}
 use Rattle.core_views.specs.declared.topics.Topics.{Topics}
 use Rattle.core_views.specs.declared.trace.Command.{Command}
-use Rattle.core_views.specs.declared.trace.Command.TheVariants.{Access, ChangeHost}
+use Rattle.core_views.specs.declared.trace.Command.TheVariants.{Access, ChangeHost, ChangeRun}
 use Rattle.core_views.specs.declared.trace.Line.{Line}
 use Rattle.core_views.specs.declared.trace.Op.{Op}
 use Rattle.core_views.specs.declared.trace.Op.TheVariants.{Add, Read, Write}
@@ -62,6 +63,7 @@ use Rattle.mmu_core.proofs.forms.access.UsedTranslations.{uses_stays}
 use Rattle.mmu_core.proofs.forms.access.CachedKept.{used_covers}
 use Rattle.mmu_core.specs.invariant.CachedPart.{FitsMachine}
 use Rattle.mmu_core.proofs.held.PageRuns.{on_run_prop}
+use Rattle.mmu_core.proofs.invariant.NextStays.{next_stays}
 
 -- The next step of a line finds what it needs.
 access_rests : (p : AccessPlace) (z : Sizes) (h : Held) (gfn word : ℕ) (op : Op) → CachedPart z h.cached.items → h.state.sizes ≡ z
@@ -208,6 +210,7 @@ needs_stay (part.SetStart first gfn) h x =
 needs_stay (part.SetEnd last gfn) h x =
     (end_stays last gfn h.topics (∥∥₁_map x (λ N. N.0)), ∥∥₁_elim x (hlevel props) (λ N. N.1), ∥∥₁_elim x (hlevel props) (λ N. N.2))
 needs_stay (part.SetCount count) h x = (count_stays count h.topics (∥∥₁_map x (λ N. N.0)), ∥∥₁_elim x (hlevel props) (λ N. N.1))
+needs_stay part.ChangeNext h x = next_stays h x
 needs_stay _ h x = prop_stays (hlevel (props, on_run_prop)) x
 
 on_stays : (s : Option PartStep) (gfn : ℕ) (write : Bool) (h : Held) → ∥ RestsOn s gfn write h ∥₁ → RestsOn s gfn write h
@@ -240,6 +243,8 @@ command_prop z (Host n) (ChangeHost page Allow) = hlevel props
 command_prop z (Host n) (ChangeHost page Move) = hlevel props
 command_prop z (Host n) (ChangeHost page Evict) = hlevel props
 command_prop z (Host n) (ChangeHost page Protect) = hlevel props
+command_prop z (Host n) (ChangeRun page (Huge level)) = hlevel props
+command_prop z (Host n) (ChangeRun page Small) = hlevel props
 command_prop z _ _ = hlevel props
 
 pub part_rests_prop : (h : Held) → IsProp (PartRests h)

@@ -7,6 +7,7 @@ use Rattle.std.proofs.lemmas.Bool.Decides.{nat_tests}
 use Rattle.core_views.specs.declared.topics.Checked.TheVariants as checked
 use Rattle.core_views.specs.declared.topics.Invalidated.{Invalidated}
 use Rattle.core_views.specs.declared.topics.Invalidations.{Invalidations}
+use Rattle.core_views.specs.declared.topics.PageRun.{PageRun}
 use Rattle.core_views.specs.declared.topics.SlotSearch.{SlotSearch}
 use Rattle.core_views.specs.declared.topics.Topics.{Topics}
 use Rattle.core_views.specs.declared.trace.Slot.{Slot}
@@ -15,7 +16,7 @@ use Rattle.part_steps.specs.declared.invalidations.Target.{Target}
 use Rattle.part_steps.specs.declared.invalidations.Target.TheVariants as aim
 use Rattle.part_steps.specs.FrameTopics.{is_uncopied}
 use Rattle.part_steps.specs.InvalidationHoldings.{IsOpening, MayCount, MayOpen, MaySetEnd, MaySetStart, has_counted, has_widened}
-use Rattle.part_steps.specs.InvalidationRange.{has_found, has_searched, invalidated_by, is_within_range, page_aimed, page_of_target, run_or_none}
+use Rattle.part_steps.specs.InvalidationRange.{HasSeveral, has_found, has_searched, invalidated_by, is_within_range, run_aimed, run_of_target}
 use Rattle.part_steps.specs.InvalidationRange.{end_with, lesser, range_end, range_start, start_with, target_end, target_start}
 use Rattle.part_steps.specs.StayTopics.{no_flush}
 
@@ -23,10 +24,18 @@ use Rattle.part_steps.specs.StayTopics.{no_flush}
 abbrev slot_from : ℕ → ℕ → Slot → Slot
 slot_from base pages found = record { base = base; pages = pages; host = found.host; read_only = found.read_only }
 
--- the target: the host page that the actor may change, or such a slot where it may change none
-abbrev target_of : Option ℕ → ℕ → ℕ → Slot → Target
-target_of (Some page) base pages found = aim.Page page
+-- the target: the host page that the actor may change, or the run of several, or such a slot where it may change none
+abbrev target_of_run : Bool → PageRun → Target
+target_of_run several run = if several then aim.Run run else aim.Page run.first
+
+abbrev target_of : Option PageRun → ℕ → ℕ → Slot → Target
+target_of (Some run) base pages found = target_of_run (nat_lt 1 run.level) run
 target_of None base pages found = aim.Slot (slot_from base pages found)
+
+-- the one that the target's own frames tell
+abbrev target_told : Option PageRun → Target → Topics → Target
+target_told aimed target t =
+    target_of aimed (target_start target t.search t.row) (target_end target t.search t.row - target_start target t.search t.row) t.search.slot
 
 or_last : (b last : Bool) → last ≡ true → (b || last) ≡ true
 or_last true last is = refl
@@ -54,36 +63,49 @@ searched_too slot base pages s =
     by true same false too last more alike is = or_last (same && too) last is
     by false same found too last more alike is = or_last (same && too) last is
 
-aimed_slot : (target : Target) (slot : Slot) (t : Topics) → IsOpening target t → page_of_target target ≡ None → has_searched (aim.Slot slot) t.search ≡ true
+aimed_slot : (target : Target) (slot : Slot) (t : Topics) → IsOpening target t → run_of_target target ≡ None → has_searched (aim.Slot slot) t.search ≡ true
     → IsOpening (aim.Slot slot) t
 aimed_slot target slot t O none searched =
-    record { alone = O.alone; outside = O.outside; closed = O.closed; holds_set = O.holds_set; aimed = O.aimed ∙ none; searched = searched }
+    record { alone = O.alone; outside = O.outside; closed = O.closed; holds_set = O.holds_set; aimed = (O.aimed.0 ∙ none, tt); searched = searched }
+
+several_prop : (target : Target) → IsProp (HasSeveral target)
+several_prop (aim.Page page) = hlevel props
+several_prop (aim.Run run) = hlevel props
+several_prop (aim.Slot slot) = hlevel props
 
 -- Two targets are of the same, and the search for the second has come to its end.
 record IsSame (target other : Target) (t : Topics) : Type 0 where
   opening : IsOpening other t
-  start : target_start other t.search ≡ target_start target t.search
-  end_ : target_end other t.search ≡ target_end target t.search
-  page : page_of_target other ≡ page_of_target target
+  start : target_start other t.search t.row ≡ target_start target t.search t.row
+  end_ : target_end other t.search t.row ≡ target_end target t.search t.row
+  page : run_of_target other ≡ run_of_target target
 
-same_some : {x y : ℕ} → Some x ≡ Some y → x ≡ y
+same_some : {x y : PageRun} → Some x ≡ Some y → x ≡ y
 same_some e = cc e
 
-same_page : (aimed page : ℕ) (t : Topics) → page_aimed t ≡ Some aimed → IsOpening (aim.Page page) t → IsSame (aim.Page page) (aim.Page aimed) t
-same_page aimed page t is O =
-    subst (λ p. IsSame (aim.Page page) (aim.Page p) t) (sym (same_some (sym is ∙ O.aimed)))
+-- So is a target, and the one that is told by the run of its host pages, if it has some.
+same_run : (run : PageRun) (target : Target) (t : Topics) → run_aimed t ≡ Some run → IsOpening target t
+    → IsSame target (target_of_run (nat_lt 1 run.level) run) t
+same_run run (aim.Page page) t is O =
+    subst (λ (r : PageRun). IsSame (aim.Page page) (target_of_run (nat_lt 1 r.level) r) t) (sym (same_some (sym is ∙ O.aimed.0)))
     (record { opening = O; start = refl; end_ = refl; page = refl })
-
--- So is each target, and the one that is told by the page that the actor may change, and by its frames.
-same_target : (target : Target) (t : Topics) → IsOpening target t
-    → IsSame target (target_of (page_aimed t) (target_start target t.search) (target_end target t.search - target_start target t.search) t.search.slot) t
-same_target target t O = by (page_aimed t) refl target O
+same_run run (aim.Run several) t is O =
+    subst (λ (r : PageRun). IsSame (aim.Run several) (target_of_run (nat_lt 1 r.level) r) t) (sym (same_some (sym is ∙ O.aimed.0)))
+    (subst (λ (b : Bool). IsSame (aim.Run several) (target_of_run b several) t) (sym (more several.level O.aimed.1))
+    (record { opening = O; start = refl; end_ = refl; page = refl }))
   where
-    by : (aimed : Option ℕ) → page_aimed t ≡ aimed → (target : Target) → IsOpening target t
-        → IsSame target (target_of aimed (target_start target t.search) (target_end target t.search - target_start target t.search) t.search.slot) t
-    by (Some aimed) is (aim.Page page) O = same_page aimed page t is O
-    by (Some aimed) is (aim.Slot slot) O = absurd (let none = sym is ∙ O.aimed in cc none)
-    by None is (aim.Page page) O = absurd (let some = sym is ∙ O.aimed in cc some)
+    more : (level : ℕ) → 2 ≤ level → nat_lt 1 level ≡ true
+    more level le = grind (arith, nat_tests)
+same_run run (aim.Slot slot) t is O = absurd (let none = sym is ∙ O.aimed.0 in cc none)
+
+-- So is each target, and the one that is told by the run that the actor may change, and by its frames.
+same_target : (target : Target) (t : Topics) → IsOpening target t → IsSame target (target_told (run_aimed t) target t) t
+same_target target t O = by (run_aimed t) refl target O
+  where
+    by : (aimed : Option PageRun) → run_aimed t ≡ aimed → (target : Target) → IsOpening target t → IsSame target (target_told aimed target t) t
+    by (Some run) is target O = same_run run target t is O
+    by None is (aim.Page page) O = absurd (let some = sym is ∙ O.aimed.0 in cc some)
+    by None is (aim.Run run) O = absurd (let some = sym is ∙ O.aimed.0 in cc some)
     by None is (aim.Slot slot) O =
         let pages : slot.base + slot.pages - slot.base ≡ slot.pages = omega arith in
         let searched = searched_too slot slot.base slot.pages t.search (λ e. e) O.searched in
@@ -97,38 +119,37 @@ same_target target t O = by (page_aimed t) refl target O
 
 range_starts : (target other : Target) (t : Topics) → IsSame target other t → range_start target t ≡ range_start other t
 range_starts target other t S =
-    ap (λ n. start_with n (target_end target t.search) t.invalidations) (sym S.start)
-    ∙ ap (λ n. start_with (target_start other t.search) n t.invalidations) (sym S.end_)
+    ap (λ n. start_with n (target_end target t.search t.row) t.invalidations) (sym S.start)
+    ∙ ap (λ n. start_with (target_start other t.search t.row) n t.invalidations) (sym S.end_)
 
 range_ends : (target other : Target) (t : Topics) → IsSame target other t → range_end target t ≡ range_end other t
 range_ends target other t S =
-    ap (λ n. end_with n (target_end target t.search) t.invalidations) (sym S.start)
-    ∙ ap (λ n. end_with (target_start other t.search) n t.invalidations) (sym S.end_)
+    ap (λ n. end_with n (target_end target t.search t.row) t.invalidations) (sym S.start)
+    ∙ ap (λ n. end_with (target_start other t.search t.row) n t.invalidations) (sym S.end_)
 
 -- ---- The end of the range.
 
 abbrev EndOf : Target → ℕ → ℕ → Topics → Type 0
 EndOf target last gfn t =
-    IsOpening target t × (has_widened t.invalidations.checked t.invalidations.count ≡ true) × (t.invalidations.own.pages ≡ run_or_none (page_of_target target))
-    × (t.invalidations.own.start ≡ target_start target t.search) × (last ≡ target_end target t.search) × (gfn ≡ range_end target t)
+    IsOpening target t × (has_widened t.invalidations.checked t.invalidations.count ≡ true) × (t.invalidations.own.pages ≡ run_of_target target)
+    × (t.invalidations.own.start ≡ target_start target t.search t.row) × (last ≡ target_end target t.search t.row) × (gfn ≡ range_end target t)
 
 end_prop : (target : Target) (last gfn : ℕ) (t : Topics) → IsProp (EndOf target last gfn t)
-end_prop target last gfn t = hlevel props
+end_prop target last gfn t = hlevel (props, several_prop)
 
 end_of : (last gfn : ℕ) (t : Topics) → MaySetEnd last gfn t
-    → EndOf (target_of (page_aimed t) t.invalidations.own.start (last - t.invalidations.own.start) t.search.slot) last gfn t
+    → EndOf (target_of (run_aimed t) t.invalidations.own.start (last - t.invalidations.own.start) t.search.slot) last gfn t
 end_of last gfn t M =
-    subst (λ e. EndOf (target_of (page_aimed t) t.invalidations.own.start (e - t.invalidations.own.start) t.search.slot) last gfn t) (sym M.own_)
-    (subst (λ s. EndOf (target_of (page_aimed t) s (target_end M.target t.search - s) t.search.slot) last gfn t) (sym M.start)
-    (S.opening, M.widened, M.pages ∙ ap run_or_none (sym S.page), M.start ∙ sym S.start, M.own_ ∙ sym S.end_, M.is ∙ range_ends M.target _ t S))
+    subst (λ e. EndOf (target_of (run_aimed t) t.invalidations.own.start (e - t.invalidations.own.start) t.search.slot) last gfn t) (sym M.own_)
+    (subst (λ s. EndOf (target_of (run_aimed t) s (target_end M.target t.search t.row - s) t.search.slot) last gfn t) (sym M.start)
+    (S.opening, M.widened, M.pages ∙ sym S.page, M.start ∙ sym S.start, M.own_ ∙ sym S.end_, M.is ∙ range_ends M.target _ t S))
   where
-    S : IsSame M.target
-        (target_of (page_aimed t) (target_start M.target t.search) (target_end M.target t.search - target_start M.target t.search) t.search.slot) t
+    S : IsSame M.target (target_told (run_aimed t) M.target t) t
     S = same_target M.target t M.opening
 
 pub end_stays : (last gfn : ℕ) (t : Topics) → ∥ MaySetEnd last gfn t ∥₁ → MaySetEnd last gfn t
 end_stays last gfn t x =
-    let target : Target = target_of (page_aimed t) t.invalidations.own.start (last - t.invalidations.own.start) t.search.slot in
+    let target : Target = target_of (run_aimed t) t.invalidations.own.start (last - t.invalidations.own.start) t.search.slot in
     let all : EndOf target last gfn t = ∥∥₁_elim x (end_prop target last gfn t) (end_of last gfn t) in
     record { target = target; opening = all.0; widened = all.1; pages = all.2; start = all.3; own_ = all.4; is = all.5 }
 
@@ -136,31 +157,31 @@ end_stays last gfn t x =
 
 abbrev OpenOf : Target → Topics → Type 0
 OpenOf target t =
-    IsOpening target t × (t.invalidations.checked ≡ checked.Range) × (t.invalidations.own ≡ invalidated_by target t.search)
+    IsOpening target t × (t.invalidations.checked ≡ checked.Range) × (t.invalidations.own ≡ invalidated_by target t.search t.row)
     × (t.invalidations.own.end ≤ 2 ^ 36) × (is_within_range t.invalidations.own t.invalidations ≡ true) × (t.walk.level ≡ 0) × (t.flush ≡ no_flush)
     × (is_uncopied t.frames.owned ≡ true)
 
 open_prop : (target : Target) (t : Topics) → IsProp (OpenOf target t)
-open_prop target t = hlevel props
+open_prop target t = hlevel (props, several_prop)
 
 open_of : (t : Topics) → MayOpen t
-    → OpenOf (target_of (page_aimed t) t.invalidations.own.start (t.invalidations.own.end - t.invalidations.own.start) t.search.slot) t
+    → OpenOf (target_of (run_aimed t) t.invalidations.own.start (t.invalidations.own.end - t.invalidations.own.start) t.search.slot) t
 open_of t M =
-    subst (λ (n : Invalidated). OpenOf (target_of (page_aimed t) n.start (n.end - n.start) t.search.slot) t) (sym M.own_)
+    subst (λ (n : Invalidated). OpenOf (target_of (run_aimed t) n.start (n.end - n.start) t.search.slot) t) (sym M.own_)
     (S.opening, M.known, M.own_ ∙ same, M.low, M.within, M.no_table, M.unasked, M.uncopied)
   where
     other : Target
-    other = target_of (page_aimed t) (target_start M.target t.search) (target_end M.target t.search - target_start M.target t.search) t.search.slot
+    other = target_told (run_aimed t) M.target t
 
     S : IsSame M.target other t
     S = same_target M.target t M.opening
 
-    same : invalidated_by M.target t.search ≡ invalidated_by other t.search
-    same = λ i. record { pages = run_or_none (sym S.page i); start = sym S.start i; end = sym S.end_ i }
+    same : invalidated_by M.target t.search t.row ≡ invalidated_by other t.search t.row
+    same = λ i. record { pages = sym S.page i; start = sym S.start i; end = sym S.end_ i }
 
 open_stays : (t : Topics) → ∥ MayOpen t ∥₁ → MayOpen t
 open_stays t x =
-    let target : Target = target_of (page_aimed t) t.invalidations.own.start (t.invalidations.own.end - t.invalidations.own.start) t.search.slot in
+    let target : Target = target_of (run_aimed t) t.invalidations.own.start (t.invalidations.own.end - t.invalidations.own.start) t.search.slot in
     let all : OpenOf target t = ∥∥₁_elim x (open_prop target t) (open_of t) in
     record {
       target = target;
@@ -188,11 +209,11 @@ count_stays count t x = record {
 
 abbrev StartOf : Target → ℕ → ℕ → Topics → Type 0
 StartOf target first gfn t =
-    IsOpening target t × (has_counted t.invalidations.checked t.invalidations.count ≡ true) × (first ≡ target_start target t.search)
+    IsOpening target t × (has_counted t.invalidations.checked t.invalidations.count ≡ true) × (first ≡ target_start target t.search t.row)
     × (gfn ≡ range_start target t)
 
 start_prop : (target : Target) (first gfn : ℕ) (t : Topics) → IsProp (StartOf target first gfn t)
-start_prop target first gfn t = hlevel props
+start_prop target first gfn t = hlevel (props, several_prop)
 
 -- one page, if so the range starts there, or else none
 abbrev pages_told : Bool → ℕ
@@ -214,18 +235,18 @@ told first gfn (suc pages) n false test is =
     absurd (let yes : (gfn == start_with first (first + 1) n) ≡ true = grind (arith, nat_tests) in cc (yes, test))
 
 start_of : (first gfn : ℕ) (t : Topics) → MaySetStart first gfn t
-    → StartOf (target_of (page_aimed t) first (pages_told (gfn == start_with first (first + 1) t.invalidations)) t.search.slot) first gfn t
-start_of first gfn t M = by (page_aimed t) refl M.target M.opening M.own_ M.is
+    → StartOf (target_of (run_aimed t) first (pages_told (gfn == start_with first (first + 1) t.invalidations)) t.search.slot) first gfn t
+start_of first gfn t M = by (run_aimed t) refl M.target M.opening M.own_ M.is
   where
     pages : ℕ
     pages = pages_told (gfn == start_with first (first + 1) t.invalidations)
 
-    by : (aimed : Option ℕ) → page_aimed t ≡ aimed → (target : Target) → IsOpening target t → first ≡ target_start target t.search
+    by : (aimed : Option PageRun) → run_aimed t ≡ aimed → (target : Target) → IsOpening target t → first ≡ target_start target t.search t.row
         → gfn ≡ range_start target t → StartOf (target_of aimed first pages t.search.slot) first gfn t
-    by (Some aimed) may (aim.Page page) O own_ is =
-        let S = same_page aimed page t may O in (S.opening, M.counted, own_ ∙ sym S.start, is ∙ range_starts (aim.Page page) (aim.Page aimed) t S)
-    by (Some aimed) may (aim.Slot slot) O own_ is = absurd (let none = sym may ∙ O.aimed in cc none)
-    by None may (aim.Page page) O own_ is = absurd (let some = sym may ∙ O.aimed in cc some)
+    by (Some run) may target O own_ is =
+        let S = same_run run target t may O in (S.opening, M.counted, own_ ∙ sym S.start, is ∙ range_starts target _ t S)
+    by None may (aim.Page page) O own_ is = absurd (let some = sym may ∙ O.aimed.0 in cc some)
+    by None may (aim.Run run) O own_ is = absurd (let some = sym may ∙ O.aimed.0 in cc some)
     by None may (aim.Slot slot) O own_ is =
         let T = told first gfn slot.pages t.invalidations (gfn == start_with first (first + 1) t.invalidations) refl
         (is ∙ ap (λ b. start_with b (b + slot.pages) t.invalidations) (sym own_)) in (
@@ -237,6 +258,6 @@ start_of first gfn t M = by (page_aimed t) refl M.target M.opening M.own_ M.is
 
 pub start_stays : (first gfn : ℕ) (t : Topics) → ∥ MaySetStart first gfn t ∥₁ → MaySetStart first gfn t
 start_stays first gfn t x =
-    let target : Target = target_of (page_aimed t) first (pages_told (gfn == start_with first (first + 1) t.invalidations)) t.search.slot in
+    let target : Target = target_of (run_aimed t) first (pages_told (gfn == start_with first (first + 1) t.invalidations)) t.search.slot in
     let all : StartOf target first gfn t = ∥∥₁_elim x (start_prop target first gfn t) (start_of first gfn t) in
     record { target = target; opening = all.0; counted = all.1; own_ = all.2; is = all.3 }

@@ -8,6 +8,7 @@ use Rattle.std.proofs.Common.{◌≡◌, ◌⊎◌, ℕ, refl, ◌≢◌}
 use Rattle.std.specs.Prelude.{List, None, true, false}
 use Rattle.core_views.specs.declared.answer.Answer.{Answer}
 use Rattle.core_views.specs.declared.answer.Answer.TheVariants.{Starved}
+use Rattle.core_views.specs.declared.place.HostRunPlace.TheVariants.{Look}
 use Rattle.core_views.specs.declared.place.Place.{Place}
 use Rattle.core_views.specs.declared.place.Place.TheVariants as place
 use Rattle.core_views.specs.declared.sizes.Sizes.{Sizes}
@@ -15,9 +16,9 @@ use Rattle.core_views.specs.declared.topics.Topics.{Topics}
 use Rattle.core_views.specs.declared.trace.Command.{Command}
 use Rattle.core_views.specs.declared.actor.Actor.{Actor}
 use Rattle.core_views.specs.declared.actor.Actor.TheVariants.{Vcpu, Host, Manager, Worker}
-use Rattle.core_views.specs.declared.trace.Command.TheVariants.{Access, ChangeHost, ChangeRun, ClearLog, DeleteSlot, GetLog, Migrate, SetLog, SetSlot}
+use Rattle.core_views.specs.declared.trace.Command.TheVariants.{Access, ChangeHost, ChangeRun, ClearLog, DeleteSlot, GetLog, Migrate, SetLog, SetSlot, Split}
 use Rattle.core_views.specs.declared.trace.MigrationCall.{MigrationCall}
-use Rattle.core_views.specs.Traces.{IsCommandFor}
+use Rattle.core_views.specs.Traces.{IsCommandFor, IsRunChange}
 use Rattle.core_views.specs.LogCommands.{read_refusal, takes_out}
 use Rattle.core_views.specs.declared.trace.Op.{Op}
 use Rattle.core_views.specs.Held.{Held}
@@ -41,11 +42,15 @@ use Rattle.mmu_core.proofs.forms.log.LogTold.{log_fed, log_scans_none}
 use Rattle.mmu_core.specs.forms.log.LogSteps.{log_first}
 use Rattle.mmu_core.proofs.forms.access.AccessEnds.{access_laws}
 use Rattle.mmu_core.proofs.forms.host.HostPlaces.{host_laws}
+use Rattle.mmu_core.proofs.forms.host_run.HostRunPlaces.{host_run_fed}
+use Rattle.mmu_core.proofs.forms.host_run.HostRunTold.{host_run_laws, run_scans_none}
 use Rattle.mmu_core.proofs.forms.log.LogTold.{log_laws}
 use Rattle.mmu_core.proofs.forms.slot_change.SlotChangeTold.{slot_change_laws}
+use Rattle.mmu_core.proofs.forms.split.SplitClaims.{split_begins_without}
+use Rattle.mmu_core.proofs.forms.split.SplitTold.{split_laws}
 pub use Rattle.mmu_core.proofs.lines.FormLaws.{RestsOnPart}
 use Rattle.mmu_core.proofs.lines.FormLaws.{FormLaws, between_laws}
-use Rattle.mmu_core.proofs.lines.SimplePlaces.{SimplePlace, Told, Nothing, Arms, ArmsClean, Exit, Change, OfAccess, OfHost, OfLog}
+use Rattle.mmu_core.proofs.lines.SimplePlaces.{SimplePlace, Told, Nothing, Arms, ArmsClean, Exit, Change, OfAccess, OfHost, OfHostRun, OfLog}
 use Rattle.mmu_core.proofs.forms.access.AccessEnds.{AreFed, access_fed, exit_fed}
 use Rattle.mmu_core.specs.orders.ClaimSteps.{FreeMap, Pages, Frames}
 use Rattle.mmu_core.specs.lines.ScanPlaces.{HasScan}
@@ -59,7 +64,9 @@ laws_at place.Between c = between_laws c
 laws_at (place.Access p) c = access_laws p c
 laws_at (place.SlotChange p) c = slot_change_laws p c
 laws_at (place.Host p) c = host_laws p c
+laws_at (place.HostRun p) c = host_run_laws p c
 laws_at (place.Log p) c = log_laws p c
+laws_at (place.Split p) c = split_laws p c
 
 -- A place of a simple form: its one row of all that laws ask of it.
 pub simple_place : (p : Place) (command : Command) (h : Held) (v : ℕ) → IsSimple p → SimplePlace p command h v
@@ -118,6 +125,7 @@ tells_fed p command h v = by p command (tells_at p command h v) (place_tells p c
     by _ _ _ (OfAccess q gfn word op) other = access_fed q h gfn word op v other
     by _ c _ (OfLog q) other = log_fed q c h v
     by _ _ _ (OfHost q page change) other = host_fed q page change h v
+    by _ _ _ (OfHostRun q page change) other = host_run_fed q page change h v
 
 -- ---- where it begins
 
@@ -125,8 +133,10 @@ tells_fed p command h v = by p command (tells_at p command h v) (place_tells p c
 pub first_no_end : (z : Sizes) (slots : MemorySlots) (command : Command) → begins_anew (first_place z slots command) ≡ true → ⊥
 first_no_end z slots (Access gfn word op) is = cc is
 first_no_end z slots (ChangeHost page change) is = cc is
+first_no_end z slots (ChangeRun page change) is = cc is
 first_no_end z slots (GetLog id) is = cc is
 first_no_end z slots (ClearLog id first count words) is = cc is
+first_no_end z slots (Split gfn) is = cc is
 first_no_end z slots _ is = cc is
 
 -- A line that moves its page says so where it begins.
@@ -143,12 +153,10 @@ no_migration z (Host n) call may = may
 no_migration z Manager call may = may
 no_migration z (Worker n) call may = may
 
--- Nor is one of them one that sets a run of host pages.
-pub no_run : (z : Sizes) (actor : Actor) (page : ℕ) (change : RunChange) → IsCommandFor z actor (ChangeRun page change) → ⊥
-no_run z (Vcpu n) page change may = may
-no_run z (Host n) page change may = may
-no_run z Manager page change may = may
-no_run z (Worker n) page change may = may
+-- One that sets a run of host pages asks for a level that runs of several pages have.
+run_in_range : (z : Sizes) (actor : Actor) (page : ℕ) (change : RunChange) → IsCommandFor z actor (ChangeRun page change) → IsRunChange change
+run_in_range z (Host n) page change may = may.1
+run_in_range z _ page change may = absurd may
 
 -- Its actor, which was at rest and owned no frame, knows what its first place asks; each slot of its record has a page.
 pub first_known : (z : Sizes) (actor : Actor) (command : Command) (h : Held) → IsCommandFor z actor command → IsAtRest h.topics
@@ -160,16 +168,19 @@ first_known z actor (ClearLog id first count words) h may R none some = log_firs
 first_known z actor (SetSlot id slot) h may R none some = (refl, slot_change_begins_known h.state.sizes (SetSlot id slot) h R)
 first_known z actor (DeleteSlot id) h may R none some = (refl, slot_change_begins_known h.state.sizes (DeleteSlot id) h R)
 first_known z actor (SetLog id on) h may R none some = (refl, slot_change_begins_known h.state.sizes (SetLog id on) h R)
+first_known z actor (Split gfn) h may R none some = R
 first_known z actor (Migrate call) h may R none some = absurd (no_migration z actor call may)
-first_known z actor (ChangeRun page change) h may R none some = absurd (no_run z actor page change may)
+first_known z actor (ChangeRun page change) h may R none some = (R, none, run_in_range z actor page change may)
 
 -- Alone, it knows what its first place asks of the words.
 pub first_alone : (z : Sizes) (slots : MemorySlots) (command : Command) (words : Area → ℕ → ℕ) (t : Topics)
     → FormAlone (first_place z slots command) command words t
 first_alone z slots (Access gfn word op) words t = λ e. absurd (cc e)
 first_alone z slots (ChangeHost page change) words t = tt
+first_alone z slots (ChangeRun page change) words t = tt
 first_alone z slots (GetLog id) words t = tt
 first_alone z slots (ClearLog id first count words_) words t = tt
+first_alone z slots (Split gfn) words t = tt
 first_alone z slots _ words t = tt
 
 -- It begins with no scan.
@@ -177,15 +188,19 @@ pub begins_without : (z : Sizes) (slots : MemorySlots) (command : Command) (map 
 begins_without z slots (Access gfn word op) Pages S = S
 begins_without z slots (Access gfn word op) Frames S = S
 begins_without z slots (ChangeHost page change) map S = host_begins_without (moves_page (ChangeHost page change)) map S
+begins_without z slots (ChangeRun page change) map S = run_scans_none Look map S
 begins_without z slots (GetLog id) map S = log_scans_none (log_first (read_refusal (GetLog id) slots) (takes_out z.mode (GetLog id))) map S
 begins_without z slots (ClearLog id first count words) map S =
     log_scans_none (log_first (read_refusal (ClearLog id first count words) slots) (takes_out z.mode (ClearLog id first count words))) map S
+begins_without z slots (Split gfn) map S = split_begins_without map S
 begins_without z slots command map S = begins_without_scan (change_at_once z command slots) map S
 
 -- It has loaded and stored nothing.
 pub first_holds : (z : Sizes) (pool : ℕ → ℕ) (set : ℕ) (command : Command) (h : Held) → Holds z pool set (first_place z h.slots command) command h
 first_holds z pool set (Access gfn word op) h = tt
 first_holds z pool set (ChangeHost page change) h = tt
+first_holds z pool set (ChangeRun page change) h = tt
 first_holds z pool set (GetLog id) h = tt
 first_holds z pool set (ClearLog id first count words) h = tt
+first_holds z pool set (Split gfn) h = tt
 first_holds z pool set command h = slot_change_begins z pool set command h (change_at_once z command h.slots) refl

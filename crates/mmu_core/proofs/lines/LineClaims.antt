@@ -3,6 +3,7 @@ use Rattle.std.proofs.Common.{◌≡◌, ◌≢◌, ◌⊎◌, inl, inr, ◌≤�
 use Rattle.std.specs.Prelude.{Bool, true, false, Option, Some, None, is_some, if◌then◌else◌}
 use Rattle.core_views.specs.declared.answer.Answer.{Answer}
 use Rattle.core_views.specs.declared.place.HostPlace.TheVariants as host
+use Rattle.core_views.specs.declared.place.HostRunPlace.TheVariants as run
 use Rattle.core_views.specs.declared.place.Place.{Place}
 use Rattle.core_views.specs.declared.place.Place.TheVariants as place
 use Rattle.core_views.specs.declared.sizes.Sizes.{Sizes}
@@ -126,9 +127,12 @@ pub record MayEnd (p : Place) (c : Command) (h : Held) (v : ℕ) : Type 0 where
   pub goes : ends_with (outcome_at p c h v) ≡ 0
   pub waits : line_waits p c h v ≡ true
 
--- A line that changes a host page may end with its look at it: it is refused where the page is part of a large one.
+-- A line that changes host pages may end with a look at one: it is refused where the page is part of a large one, or its run can't be mapped as one.
 abbrev pub IsLook : Place → Type 0
-IsLook p = (moves : Bool) × (p ≡ place.Host (host.Look moves))
+IsLook (place.Host (host.Look moves)) = Unit {0}
+IsLook (place.HostRun run.Look) = Unit {0}
+IsLook (place.HostRun run.LookOn) = Unit {0}
+IsLook _ = ⊥
 
 -- Or it makes another step: with it the line comes to no scan but its own, and is answered for want of a page or a frame only after one.
 pub record ClaimsNot (p : Place) (c : Command) (h : Held) (v : ℕ) : Type 0 where

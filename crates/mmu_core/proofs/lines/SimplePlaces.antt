@@ -9,6 +9,7 @@ use Rattle.core_views.specs.declared.event.EventKind.TheVariants.{Armed, SlotCha
 use Rattle.core_views.specs.declared.place.AccessPlace.{AccessPlace}
 use Rattle.core_views.specs.declared.place.FrameRange.{FrameRange}
 use Rattle.core_views.specs.declared.place.HostPlace.{HostPlace}
+use Rattle.core_views.specs.declared.place.HostRunPlace.{HostRunPlace}
 use Rattle.core_views.specs.declared.place.LogPlace.{LogPlace}
 use Rattle.core_views.specs.declared.place.Place.{Place}
 use Rattle.core_views.specs.declared.place.Place.TheVariants as place
@@ -16,8 +17,9 @@ use Rattle.core_views.specs.declared.place.SlotChangePlace.TheVariants.{WritePro
 use Rattle.core_views.specs.declared.place.WriteProtectPlace.TheVariants as protect
 use Rattle.core_views.specs.declared.memory_slot.MemorySlot.{MemorySlot}
 use Rattle.core_views.specs.declared.trace.Command.{Command}
-use Rattle.core_views.specs.declared.trace.Command.TheVariants.{Access, ChangeHost}
+use Rattle.core_views.specs.declared.trace.Command.TheVariants.{Access, ChangeHost, ChangeRun}
 use Rattle.core_views.specs.declared.trace.HostChange.{HostChange}
+use Rattle.core_views.specs.declared.trace.RunChange.{RunChange}
 use Rattle.core_views.specs.declared.trace.Op.{Op}
 use Rattle.core_views.specs.Held.{Held}
 use Rattle.part_steps.specs.declared.part_step.PartStep.TheVariants as part
@@ -25,6 +27,7 @@ use Rattle.mmu_core.specs.declared.outcome.Outcome.TheVariants.{Ends}
 use Rattle.mmu_core.specs.forms.access.AccessSteps.{access_tells, exiting}
 use Rattle.mmu_core.specs.lines.Forms.{RestsAt, outcome_at, part_at, tells_at}
 use Rattle.mmu_core.specs.forms.host.HostSteps.{host_tells}
+use Rattle.mmu_core.specs.forms.host_run.HostRunSteps.{host_run_tells}
 use Rattle.mmu_core.specs.forms.log.LogTells.{log_tells}
 use Rattle.mmu_core.proofs.lines.LineClaims.{Claims, ClaimsNot, no_claim_between, no_scan_between, to_no_scan}
 use Rattle.mmu_core.proofs.machine.GoesOn.{GoesToSimple}
@@ -42,7 +45,7 @@ use Rattle.std.proofs.Common.{◌+◌, ◌≤◌, length, arith}
 
 -- At this place, for this command, a step that finds v tells one of these, besides that its line begins or is answered: nothing; an exit, but none for
 -- want of a frame; that a log begins, where it publishes, or has awaited the last flush; a slot's change, where it publishes, and then one of these; or what
--- an access, a host line or one that reads a dirty log tells.
+-- an access, a host line, one that sets a run of host pages or one that reads a dirty log tells.
 pub data Told (h : Held) (v : ℕ) : Place → Command → List EventKind → Type 0 where
   Nothing : {p : Place} {c : Command} → Told h v p c []
   Exit : {p : Place} {c : Command} → outcome_at p c h v ≢ Ends (Refused NoFrame) → Told h v p c (exiting (outcome_at p c h v))
@@ -54,6 +57,8 @@ pub data Told (h : Held) (v : ℕ) : Place → Command → List EventKind → Ty
   OfAccess : (p : AccessPlace) (gfn word : ℕ) (op : Op) → Told h v (place.Access p) (Access gfn word op) (access_tells p h gfn word op v)
   OfLog : (p : LogPlace) {c : Command} → Told h v (place.Log p) c (log_tells p c h v)
   OfHost : (p : HostPlace) (page : ℕ) (change : HostChange) → Told h v (place.Host p) (ChangeHost page change) (host_tells p page change h v)
+  OfHostRun : (p : HostRunPlace) (page : ℕ) (change : RunChange)
+      → Told h v (place.HostRun p) (ChangeRun page change) (host_run_tells p page change h v)
 
 -- ---- the sequence number
 

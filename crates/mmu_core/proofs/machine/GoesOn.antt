@@ -18,7 +18,7 @@ abbrev pub GoesToNoAccess : Outcome → Type 0
 GoesToNoAccess (Goes p) = IsNoAccess p
 GoesToNoAccess (Ends answer) = Unit {0}
 
--- It is a place of a simple form: one that is neither an access nor changes a host page. Between lines is such a place too.
+-- It is a place of a simple form: one that is neither an access nor changes a host page by itself. Between lines is such a place too.
 abbrev pub IsSimple : Place → Type 0
 IsSimple (place.Access p) = ⊥
 IsSimple (place.Host p) = ⊥

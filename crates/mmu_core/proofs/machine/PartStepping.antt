@@ -83,6 +83,7 @@ is_publish _ = false
 abbrev pub changes_word : PartStep → Bool
 changes_word part.Bring = true
 changes_word (part.Change new_) = true
+changes_word part.ChangeNext = true
 changes_word _ = false
 
 -- A step that isn't one of lines alone publishes nothing, and changes no host word.
@@ -93,6 +94,7 @@ idle_never _ free = refl
 pub idle_quiet : (step : PartStep) → needs_line step ≡ false → changes_word step ≡ false
 idle_quiet part.Bring free = absurd (cc free)
 idle_quiet (part.Change new_) free = absurd (cc free)
+idle_quiet part.ChangeNext free = absurd (cc free)
 idle_quiet _ free = refl
 
 -- It brings a host page in.
@@ -107,6 +109,7 @@ is_told part.Publish = true
 is_told (part.SetCount count) = true
 is_told (part.SetSeq seq) = true
 is_told (part.Change new_) = true
+is_told part.ChangeNext = true
 is_told part.Frame = true
 is_told (part.Copy index) = true
 is_told (part.Store index) = true
@@ -120,6 +123,7 @@ never_told _ untold = refl
 pub quiet_told : (step : PartStep) → is_told step ≡ false → brings step ≡ false → changes_word step ≡ false
 quiet_told part.Bring untold other = absurd (cc other)
 quiet_told (part.Change new_) untold other = absurd (cc untold)
+quiet_told part.ChangeNext untold other = absurd (cc untold)
 quiet_told _ untold other = refl
 
 pub idle_untold : (step : PartStep) → needs_line step ≡ false → is_told step ≡ false
@@ -127,6 +131,7 @@ idle_untold part.Publish free = absurd (cc free)
 idle_untold (part.SetCount count) free = absurd (cc free)
 idle_untold (part.SetSeq seq) free = absurd (cc free)
 idle_untold (part.Change new_) free = absurd (cc free)
+idle_untold part.ChangeNext free = absurd (cc free)
 idle_untold part.Frame free = absurd (cc free)
 idle_untold (part.Copy index) free = absurd (cc free)
 idle_untold (part.Store index) free = absurd (cc free)

@@ -8,7 +8,8 @@ use Rattle.mmu_core.specs.invariant.TopicsInvariant.{CountersPart, FilledPart, F
 use Rattle.mmu_core.specs.invariant.TopicsInvariant.{OwnLooksPart, SawWriter, SearchPart}
 use Rattle.mmu_core.specs.invariant.TopicsInvariant.{StatesPart, TopicsInvariantOf, SetsPart, OldSetsPart, PathPart, UsePart, stands, CountPart}
 use Rattle.mmu_core.specs.invariant.TopicsInvariant.{CheckedPart, HeldSlotsPart, KnownRangePart, LoadedPart, LookedFramesPart, PassedPart, RangePart}
-use Rattle.mmu_core.specs.invariant.TopicsInvariant.{RunsPart, ScopePart, SlotScopePart, SmallChangesPart, SweptPart, ZappedPart}
+use Rattle.mmu_core.specs.invariant.TopicsInvariant.{ChangesPart, CollectedPart, IsLowRow, OwnPagesPart, OwnRowsPart}
+use Rattle.mmu_core.specs.invariant.TopicsInvariant.{RunsPart, ScopePart, SlotScopePart, SweptPart, ZappedPart}
 
 pub same_topics : (z : Sizes) (lock root slots seq count start end_ : ℕ) (states map frame_map host role pool : ℕ → ℕ) (hand other : ℕ → Held)
     → ◌≡◌ {A = ℕ → Topics} (λ i. (other i).topics) (λ i. (hand i).topics)
@@ -46,7 +47,11 @@ same_topics z lock root slots seq count start end_ states map frame_map host rol
   scopes = subst (λ (t : ℕ → Topics). ScopePart (actors_of z) pool slots t) (sym same) I.scopes;
   slot_scopes = subst (λ (t : ℕ → Topics). SlotScopePart (actors_of z) pool slots t) (sym same) I.slot_scopes;
   runs = subst (λ (t : ℕ → Topics). RunsPart z (actors_of z) host t) (sym same) I.runs;
-  small_changes = subst (λ (t : ℕ → Topics). SmallChangesPart (actors_of z) host t) (sym same) I.small_changes;
+  own_pages = subst (λ (t : ℕ → Topics). OwnPagesPart z (actors_of z) host t) (sym same) I.own_pages;
+  changes = subst (λ (t : ℕ → Topics). ChangesPart (actors_of z) host t) (sym same) I.changes;
+  own_rows = subst (λ (t : ℕ → Topics). OwnRowsPart z (actors_of z) host t) (sym same) I.own_rows;
+  collected = subst (λ (t : ℕ → Topics). (i : ℕ) → i < actors_of z → CollectedPart pool (t i)) (sym same) I.collected;
+  low_rows = subst (λ (t : ℕ → Topics). (i : ℕ) → i < actors_of z → IsLowRow (t i).row) (sym same) I.low_rows;
   swept = subst (λ (t : ℕ → Topics). SweptPart (actors_of z) I.up I.spot pool root t) (sym same) I.swept;
   zapped = subst (λ (t : ℕ → Topics). ZappedPart (actors_of z) I.up I.spot pool root t) (sym same) I.zapped;
   few_ended = I.few_ended;

@@ -31,6 +31,7 @@ use Rattle.mmu_core.proofs.orders.SweptSteps.{zapped_done}
 -- The frames end below 2 ^ 36.
 pub frames_low : (target : Target) (own_ : Invalidated) → FramesAre target own_ → own_.end ≤ 2 ^ 36
 frames_low (aim.Page page) own_ F = F.1
+frames_low (aim.Run run) own_ F = F
 frames_low (aim.Slot slot) own_ F = F.2
 
 -- Where the sweep is over no virtual processor was asked yet.

@@ -26,6 +26,7 @@ use Rattle.mmu_core.specs.declared.claim.ClaimNext.TheVariants as claims
 use Rattle.mmu_core.specs.declared.outcome.Outcome.TheVariants.{Ends}
 use Rattle.mmu_core.specs.orders.ClaimSteps.{FreeMap, Pages, Frames, claim_left, claim_next, claim_outcome, claim_over, claim_part, load_part, map_word}
 use Rattle.mmu_core.specs.orders.ClaimSteps.{map_words, tries_one, try_part, word_after_load}
+use Rattle.mmu_core.proofs.orders.RunsAimed.{LeavesLooks, same_looks}
 use Rattle.mmu_core.proofs.forms.access.FaultSame.{both}
 use Rattle.mmu_core.proofs.lines.EitherPlace.{either_place}
 
@@ -210,11 +211,13 @@ pub claim_walk : (z : Sizes) (map : FreeMap) (begun : Bool) (t : Topics) (v : �
 claim_walk z Pages begun t v _ _ _ M = ap (λ (x : Topics). x.walk) (claim_changes z Pages begun t v _ _ _ M)
 claim_walk z Frames begun t v _ _ _ M = ap (λ (x : Topics). x.walk) (claim_changes z Frames begun t v _ _ _ M)
 
--- So does the host word that was looked up, and what is held of invalidations.
-pub claim_host : (z : Sizes) (map : FreeMap) (begun : Bool) (t : Topics) (v : ℕ) (step : PartStep) (next : ClaimNext) (u : Topics)
-    → ClaimMade z map begun t v step next u → u.host ≡ t.host
-claim_host z Pages begun t v _ _ _ M = ap (λ (x : Topics). x.host) (claim_changes z Pages begun t v _ _ _ M)
-claim_host z Frames begun t v _ _ _ M = ap (λ (x : Topics). x.host) (claim_changes z Frames begun t v _ _ _ M)
+-- So does the host word that was looked up, with what was seen of pages in a row with it, and what is held of invalidations.
+pub claim_looks : (z : Sizes) (map : FreeMap) (begun : Bool) (t : Topics) (v : ℕ) (step : PartStep) (next : ClaimNext) (u : Topics)
+    → ClaimMade z map begun t v step next u → LeavesLooks t u
+claim_looks z Pages begun t v _ _ _ M = let same = claim_changes z Pages begun t v _ _ _ M in
+    same_looks t _ (ap (λ (x : Topics). x.host) same) (ap (λ (x : Topics). x.row) same)
+claim_looks z Frames begun t v _ _ _ M = let same = claim_changes z Frames begun t v _ _ _ M in
+    same_looks t _ (ap (λ (x : Topics). x.host) same) (ap (λ (x : Topics). x.row) same)
 
 pub claim_opens : (z : Sizes) (map : FreeMap) (begun : Bool) (t : Topics) (v : ℕ) (step : PartStep) (next : ClaimNext) (u : Topics)
     → ClaimMade z map begun t v step next u → u.invalidations ≡ t.invalidations

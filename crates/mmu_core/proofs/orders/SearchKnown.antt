@@ -7,6 +7,7 @@ use Rattle.core_views.specs.declared.place.SlotField.{SlotField}
 use Rattle.core_views.specs.declared.place.SlotField.TheVariants as field
 use Rattle.core_views.specs.declared.sizes.Sizes.{Sizes}
 use Rattle.core_views.specs.declared.topics.Hold.{Hold}
+use Rattle.core_views.specs.declared.topics.HostRow.{HostRow}
 use Rattle.core_views.specs.declared.topics.SlotSearch.{SlotSearch}
 use Rattle.core_views.specs.declared.topics.Stay.{Stay}
 use Rattle.core_views.specs.declared.topics.TableWalk.{TableWalk}
@@ -64,6 +65,7 @@ neither false b one other = other
 -- The search that isn't over has slots left.
 not_over : (target : Target) (s : SlotSearch) → has_searched target s ≡ false → (s.id == 32) ≡ false
 not_over (aim.Page page) s is = not_either (has_found page s) (s.id == 32) is
+not_over (aim.Run run) s is = is
 not_over (aim.Slot slot) s is = not_either ((slot.pages == 1) && has_found slot.host s) (s.id == 32) is
 
 -- Before a slot is loaded whole nothing is found.
@@ -72,6 +74,7 @@ not_found page s none = ap (λ (b : Bool). b && has_host_page page s.slot) none
 
 pub none_searched : (target : Target) (s : SlotSearch) → s.whole ≡ false → (s.id == 32) ≡ false → has_searched target s ≡ false
 none_searched (aim.Page page) s none left = neither (has_found page s) (s.id == 32) (not_found page s none) left
+none_searched (aim.Run run) s none left = left
 none_searched (aim.Slot slot) s none left =
     neither ((slot.pages == 1) && has_found slot.host s) (s.id == 32) (not_second (slot.pages == 1) (not_found slot.host s none)) left
 
@@ -83,11 +86,12 @@ same_searches t u stay hold open_ flush walk S = record {
   no_table = ap (λ (w : TableWalk). w.level) walk ∙ S.no_table;
 }
 
-pub search_known : (b : Bool) (z : Sizes) (target : Target) (t : Topics) (v : ℕ) → b ≡ true → Searches t → HoldsSet t → t.search.id ≤ 31
-    → BeginKnows (search_next target (searched t.search v)) z target (record t { search = if b then searched t.search v else t.search })
-search_known false z target t v is S set low = absurd (cc is)
-search_known true z target t v is S set low =
-    one_place (λ q. BeginKnows q z target (record t { search = searched t.search v })) (has_searched target (searched t.search v)) begins.Count
+-- It goes on whatever it has collected of guest frames.
+pub search_known : (b : Bool) (z : Sizes) (target : Target) (t : Topics) (v : ℕ) (row : HostRow) → b ≡ true → Searches t → HoldsSet t → t.search.id ≤ 31
+    → BeginKnows (search_next target (searched t.search v)) z target (record t { search = if b then searched t.search v else t.search; row = row })
+search_known false z target t v row is S set low = absurd (cc is)
+search_known true z target t v row is S set low =
+    one_place (λ q. BeginKnows q z target (record t { search = searched t.search v; row = row })) (has_searched target (searched t.search v)) begins.Count
     (begins.Find true)
     (λ e. record { searches = same_searches t _ refl refl refl refl refl S; set = held; searched = e })
     (λ e. (

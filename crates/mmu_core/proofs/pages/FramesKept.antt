@@ -27,6 +27,8 @@ use Rattle.mmu_core.proofs.pages.FramesTurn.{frame_claim_kept, frame_give_kept, 
 use Rattle.mmu_core.proofs.machine.ColumnsTell.{both, some_is, tells}
 use Rattle.mmu_core.proofs.pages.Standing.{upd_if}
 use Rattle.mmu_core.proofs.words.PartTopics.{behind_step, part_behind, stepped_hand}
+use Rattle.mmu_core.proofs.words.HostStays.{given_frame}
+use Rattle.mmu_core.proofs.held.NextPages.{next_page, next_words_behind}
 
 -- The host word that was looked up is the page's own.
 abbrev pub is_as_looked : Topics → View → Bool
@@ -87,7 +89,7 @@ moved_frame words word new_ o is =
     ∙ host_has_frame o.frame (host_present word) (host_allows_write word) (host_level word) (level_small word)
 
 -- A word with the same frame leaves what each page names.
-names_same : (host : ℕ → ℕ) (page w : ℕ) → host_frame w ≡ host_frame (host page) → (p : ℕ) → host_frame (upd host page w p) ≡ host_frame (host p)
+pub names_same : (host : ℕ → ℕ) (page w : ℕ) → host_frame w ≡ host_frame (host page) → (p : ℕ) → host_frame (upd host page w p) ≡ host_frame (host p)
 names_same host page w same = at_upd (λ q x. host_frame x ≡ host_frame (host q)) host page w same (λ q ne. refl)
 
 pub same_word : (found looked new_ : ℕ) → host_frame new_ ≡ host_frame looked → host_frame (if found == looked then new_ else found) ≡ host_frame found
@@ -170,6 +172,10 @@ frames_behind z v a part.Bring note S I =
 frames_behind z v a (part.Change new_) note S I =
     let t : Topics = (v.hand a).topics in
     change_kept z v a new_ S I t.frames.owned (is_as_looked t v) refl (λ e. tells (v.words area.Host (page_looked t.host)) (word_looked t.host) e)
+frames_behind z v a part.ChangeNext note S I =
+    frames_stay I.frames a S.there _ _ _ (λ k. refl)
+    (subst (λ (h : ℕ → ℕ). (p : ℕ) → host_frame (h p) ≡ host_frame (v.words area.Host p)) (sym (next_words_behind z v a S I note))
+    (names_same (v.words area.Host) (next_page z v a S I) _ (given_frame z v a S I))) (λ k. refl)
 frames_behind z v a step note S I = frames_stay I.frames a S.there _ _ _ (λ k. refl) (λ p. refl) (λ k. refl)
 
 -- Each step of a part keeps what the frames are.

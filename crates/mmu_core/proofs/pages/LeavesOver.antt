@@ -17,7 +17,7 @@ use Rattle.mmu_core.specs.invariant.CachedPart.{IsLeafFor}
 use Rattle.mmu_core.specs.invariant.SlotSetPart.{IsLiveIn}
 use Rattle.mmu_core.specs.invariant.TopicsInvariant.{TopicsInvariant}
 use Rattle.mmu_core.specs.invariant.TreePart.{HangsBelow, Position, Use, at, is_table, stands}
-use Rattle.mmu_core.specs.machine.View.{View, part_stepped}
+use Rattle.mmu_core.specs.machine.View.{View, part_stepped, upd}
 use Rattle.mmu_core.proofs.pages.AllOver.{IsLight, over_weaker}
 use Rattle.mmu_core.proofs.pages.OverSteps.{OfNewLeaf, over_step}
 use Rattle.mmu_core.proofs.pages.SplitLeaves.{leaves_inherited}
@@ -37,7 +37,10 @@ use Rattle.mmu_core.specs.invariant.InvalidatedPart.{SlotGives}
 use Rattle.mmu_core.proofs.machine.Columns.{same_or}
 use Rattle.part_steps.specs.PartHoldings.{is_fixable}
 use Rattle.mmu_core.proofs.forms.access.FaultSame.{both}
-use Rattle.mmu_core.proofs.held.PageRuns.{some_run}
+use Rattle.mmu_core.proofs.held.NextPages.{next_on_own, next_page, next_words}
+use Rattle.mmu_core.proofs.held.PageRuns.{on_it, some_run}
+use Rattle.core_views.specs.Sizes.{AreSizes, actors_of}
+use Rattle.part_steps.specs.PageRuns.{IsOnRun}
 
 -- It says nothing of what is no leaf.
 pub leaves_light : (pool host : ℕ → ℕ) (set : ℕ) → IsLight (LeafIsFor pool host set)
@@ -177,39 +180,53 @@ published_leaves z v a note S I =
         let of_it = flushed_within z.vcpus gfn L.slot (v.hand a).topics F L.holds in
         absurd (I.zapped a S.there (slot_empty (v.hand a).topics F.opened S.needs.none_retired) (omega (arith, some, F.asked)) table entry gfn R O of_it leaf)
 
--- Of a page that is changed there is no leaf: its guest frame was zapped.
-changed_leaves : (z : Sizes) (v : View) (a new_ note : ℕ) → IsPart z v a (part.Change new_) → (I : TopicsInvariant z v)
+-- Of a page of an open invalidation there is no leaf, once flushes were asked for: its guest frame was zapped. So leaves agree whatever its word is.
+emptied_leaves : (z : Sizes) (v : View) (a page now_ : ℕ) (I : TopicsInvariant z v) → a < actors_of z → AreSizes z
+    → (v.hand a).topics.invalidations.opened ≡ true → IsOnRun page (v.hand a).topics.invalidations.own.pages → z.vcpus ≤ (v.hand a).topics.flush.asked
     → AllOver I.up I.spot (v.words area.Pool) (v.words area.Root 0)
-    (LeafIsFor (v.words area.Pool) ((part_stepped a (part.Change new_) note v).words area.Host) (v.words area.Slots 0))
-changed_leaves z v a new_ note S I table entry gfn R O leaf =
+    (LeafIsFor (v.words area.Pool) (upd (v.words area.Host) page now_) (v.words area.Slots 0))
+emptied_leaves z v a page now_ I there sizes opened on all table entry gfn R O leaf =
     let is = I.leaves table entry gfn R O leaf in by is (same_or (page_of is.slot gfn) page)
   where
-    page : ℕ
-    page = page_looked (v.hand a).topics.host
-
     word : ℕ
     word = v.words area.Pool (pool_index table entry)
 
     asked : 1 ≤ (v.hand a).topics.flush.asked
-    asked =
-        let some = S.is_sizes.some in
-        let all = subst (λ (y : Sizes). y.vcpus ≤ (v.hand a).topics.flush.asked) S.sizes S.needs.0.asked in
-        omega (arith, some, all)
+    asked = let some = sizes.some in omega (arith, some, all)
 
     level : ℕ
     level = (I.spot table).level
 
     by : (L : IsLeafFor (v.words area.Pool) (v.words area.Host) (v.words area.Slots 0) level gfn word)
         → (page_of L.slot gfn ≡ page) ⊎ (page_of L.slot gfn ≢ page)
-        → IsLeafFor (v.words area.Pool) ((part_stepped a (part.Change new_) note v).words area.Host) (v.words area.Slots 0) level gfn word
+        → IsLeafFor (v.words area.Pool) (upd (v.words area.Host) page now_) (v.words area.Slots 0) level gfn word
     by L (inl e) =
         let B = behind_it L.slot gfn L.holds in
         let given : SlotGives (v.words area.Pool) (v.words area.Slots 0) (page_of L.slot gfn) gfn =
         record { id = L.id; slot = L.slot; live = L.live; has = B.0; is = B.1 } in
-        absurd (I.zapped a S.there (page_empty (v.hand a).topics page S.needs.0.opened S.needs.0.invalid) asked table entry gfn R O
-        ((I.scopes a S.there S.needs.0.opened (some_run page (v.hand a).topics.invalidations.own.pages S.needs.0.invalid)).covers page gfn S.needs.0.invalid
+        absurd (I.zapped a there (page_empty (v.hand a).topics page opened on) asked table entry gfn R O
+        ((I.scopes a there opened (some_run page (v.hand a).topics.invalidations.own.pages on)).covers page gfn on
         (subst (λ p. SlotGives (v.words area.Pool) (v.words area.Slots 0) p gfn) e given)) leaf)
     by L (inr ne) = leaf_same (v.words area.Pool) (v.words area.Host) (v.words area.Slots 0) page _ level gfn word L (λ e. absurd (ne e))
+
+-- So they do where it is changed.
+changed_leaves : (z : Sizes) (v : View) (a new_ note : ℕ) → IsPart z v a (part.Change new_) → (I : TopicsInvariant z v)
+    → AllOver I.up I.spot (v.words area.Pool) (v.words area.Root 0)
+    (LeafIsFor (v.words area.Pool) ((part_stepped a (part.Change new_) note v).words area.Host) (v.words area.Slots 0))
+changed_leaves z v a new_ note S I =
+    let page : ℕ = page_looked (v.hand a).topics.host in
+    emptied_leaves z v a page _ I S.there S.is_sizes S.needs.0.opened (on_it page (v.hand a).topics.invalidations.own.pages S.needs.0.invalid)
+    (subst (λ (y : Sizes). y.vcpus ≤ (v.hand a).topics.flush.asked) S.sizes S.needs.0.asked)
+
+-- Nor is there of a page of a run.
+next_leaves : (z : Sizes) (v : View) (a note : ℕ) → IsPart z v a part.ChangeNext → (I : TopicsInvariant z v)
+    → AllOver I.up I.spot (v.words area.Pool) (v.words area.Root 0)
+    (LeafIsFor (v.words area.Pool) ((part_stepped a part.ChangeNext note v).words area.Host) (v.words area.Slots 0))
+next_leaves z v a note S I =
+    subst (λ (h : ℕ → ℕ). AllOver I.up I.spot (v.words area.Pool) (v.words area.Root 0) (LeafIsFor (v.words area.Pool) h (v.words area.Slots 0)))
+    (sym (next_words z v a S I note))
+    (emptied_leaves z v a (next_page z v a S I) _ I S.there S.is_sizes S.needs.opened (next_on_own z v a S I)
+    (subst (λ (y : Sizes). y.vcpus ≤ (v.hand a).topics.flush.asked) S.sizes S.needs.asked))
 
 -- Of a page that is brought in there is none either: it wasn't present.
 brought_leaves : (z : Sizes) (v : View) (a note : ℕ) → IsPart z v a part.Bring → (I : TopicsInvariant z v)
@@ -228,6 +245,7 @@ pub leaves_kept : (z : Sizes) (v : View) (a : ℕ) (step : PartStep) (note : ℕ
     (LeafIsFor ((part_stepped a step note v).words area.Pool) ((part_stepped a step note v).words area.Host) ((part_stepped a step note v).words area.Slots 0))
 leaves_kept z v a part.Bring note S I = brought_leaves z v a note S I
 leaves_kept z v a (part.Change new_) note S I = changed_leaves z v a new_ note S I
+leaves_kept z v a part.ChangeNext note S I = next_leaves z v a note S I
 leaves_kept z v a part.Publish note S I = published_leaves z v a note S I
 leaves_kept z v a step note S I = quiet_leaves z v a step note S I refl refl
 

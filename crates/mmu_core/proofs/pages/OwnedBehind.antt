@@ -1,6 +1,6 @@
 -- What leaves after a step of a part, and the page that its actor owns after it has stored a leaf or a link.
 use Rattle.std.proofs.Common.{◌≡◌, ◌^◌, ◌<◌, ◌≤◌, ℕ, refl, ap, arith}
-use Rattle.std.specs.Prelude.{Bool, true, false, if◌then◌else◌, Option, Some, None}
+use Rattle.std.specs.Prelude.{Bool, true, false, ◌==◌, if◌then◌else◌, Option, Some, None}
 use Rattle.core_views.specs.declared.sizes.Sizes.{Sizes}
 use Rattle.core_views.specs.declared.topics.OwnedPage.{OwnedPage}
 use Rattle.core_views.specs.declared.topics.Topics.{Topics}
@@ -13,7 +13,9 @@ use Rattle.part_steps.specs.PartTasks.{link_written, page_owned, part_task}
 use Rattle.part_steps.specs.Tasks.{kind_of_task}
 use Rattle.part_steps.specs.WalkTopics.{linked_page, still_owned, unless_linked}
 use Rattle.part_steps.specs.PageTopics.{still_retired}
-use Rattle.part_steps.specs.TopicSteps.{topics_after}
+use Rattle.core_views.specs.declared.kind.Kind.{Kind}
+use Rattle.part_steps.specs.PageRuns.{is_several}
+use Rattle.part_steps.specs.TopicSteps.{page_changed, run_changed, topics_after}
 
 -- what leaves after a step that answered v
 abbrev pub retired_behind : PartStep → Topics → ℕ → Option ℕ
@@ -22,10 +24,17 @@ retired_behind part.Give t v = still_retired t.owned t.retired
 retired_behind part.GiveOld t v = still_retired t.owned t.retired
 retired_behind _ t v = t.retired
 
+either_change : (several : Bool) (z : Sizes) (k : Kind) (t : Topics) (v : ℕ)
+    → (if several then run_changed (v == k.old) t else page_changed z k t v).retired ≡ t.retired
+either_change true z k t v = refl
+either_change false z k t v = refl
+
 pub retired_is : (step : PartStep) (z : Sizes) (own : ℕ) (t : Topics) (note v : ℕ)
     → (topics_after z (kind_of_task z (part_task step own t note)) t v).retired ≡ retired_behind step t v
 unfolding topics_after
 retired_is part.Publish z own t note v = refl
+retired_is (part.Change new_) z own t note v = either_change (is_several t.invalidations.own.pages) z (kind_of_task z (part_task (part.Change new_) own t note)) t v
+retired_is part.ChangeNext z own t note v = either_change (is_several t.invalidations.own.pages) z (kind_of_task z (part_task part.ChangeNext own t note)) t v
 retired_is _ z own t note v = refl
 
 -- A leaf is no link: who stores one owns what it owned.

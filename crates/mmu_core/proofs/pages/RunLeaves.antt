@@ -15,15 +15,16 @@ use Rattle.spte_words.specs.declared.area.Area.TheVariants as area
 use Rattle.spte_words.specs.Entries.{leaf_word, level_span}
 use Rattle.spte_words.specs.HostWords.{host_frame, host_level, host_present}
 use Rattle.spte_words.proofs.Spans.{each_span}
-use Rattle.part_steps.specs.InvalidationRange.{IsOnRun, gfn_behind}
+use Rattle.part_steps.specs.InvalidationRange.{gfn_behind}
+use Rattle.part_steps.specs.PageRuns.{IsOnRun}
 use Rattle.part_steps.specs.PartHoldings.{MayEnter}
 use Rattle.part_steps.specs.PartTasks.{word_looked}
 use Rattle.part_steps.specs.RunHoldings.{HasRun}
 use Rattle.part_steps.specs.SlotWords.{leaf_at, page_of, slot_at}
 use Rattle.part_steps.specs.StayTopics.{has_lock}
 use Rattle.mmu_core.specs.invariant.CachedPart.{IsLeafFor}
-use Rattle.mmu_core.specs.invariant.InvalidatedPart.{SlotGives, IsIn, keeps_empty}
-use Rattle.mmu_core.specs.invariant.RunsPart.{IsInRun, IsOneRun}
+use Rattle.mmu_core.specs.invariant.InvalidatedPart.{GivesOne, IsIn, IsOfPages, SlotGives, keeps_empty}
+use Rattle.mmu_core.specs.invariant.RunsPart.{HasOwnerOf, IsInRun, IsOneRun}
 use Rattle.mmu_core.specs.invariant.SearchPart.{IsInvalidating, IsOnPage}
 use Rattle.mmu_core.specs.invariant.SlotSetPart.{AreSlots, IsLiveIn}
 use Rattle.mmu_core.specs.invariant.TopicsInvariant.{TopicsInvariant}
@@ -32,6 +33,7 @@ use Rattle.mmu_core.proofs.held.PageRuns.{some_run}
 use Rattle.mmu_core.proofs.held.KeptEmpty.{empty_open, empty_slot}
 use Rattle.mmu_core.proofs.held.FreshFrames.{behind_it, found_live, fresh_in_none, looked_word}
 use Rattle.mmu_core.proofs.held.WalkSpans.{one_frame}
+use Rattle.mmu_core.proofs.words.RunSpans.{between_spans, in_wider}
 
 -- ---- places in runs
 
@@ -137,7 +139,7 @@ module _ (z : Sizes) (v : View) (a level gfn : ℕ) (there : a < actors_of z) (I
       ((I.scopes j lt U.opened (some_run page (v.hand j).topics.invalidations.own.pages U.of_it)).covers page gfn U.of_it given)
 
   -- So the pages of the run are mapped alike.
-  alike : (other : ℕ) → IsInRun level page other → (other < z.pages) × IsOneRun level (v.words area.Host) page other
+  alike : (other : ℕ) → IsInRun level page other → (other < z.pages) × IsOneRun level (v.words area.Host) page other × HasOwnerOf z page other
   alike other in_run = I.runs page level other in_machine quiet from (subst (λ w. level ≤ host_level w) looked large) in_run
 
   -- The live slot with a guest frame of the run is the one that was found.
@@ -175,39 +177,52 @@ module _ (z : Sizes) (v : View) (a level gfn : ℕ) (there : a < actors_of z) (I
         let pages : O.slot.pages ≡ slot.pages = ap (λ (s : SlotOf). s.pages) same in
         fresh (omega (arith, start, base, low), omega (arith, end_, base, pages, high))
 
-    page_meets : is_some own_.pages ≡ true → IsIn own_ other → ⊥
-    page_meets some is_in = by (cases_lt 1 level)
+    -- No slot gives a guest frame of the run to a page of an invalidated run: this run would have the page, too, and the invalidation its guest frame.
+    gives_none : (run : PageRun) → own_.pages ≡ Some run → (e : ℕ) → IsInRun level gfn e
+        → GivesOne (v.words area.Pool) (v.words area.Slots 0) own_.pages e → ⊥
+    gives_none run is e near given =
+        let p : ℕ = given.0 in
+        let G = given.2 in
+        let back = given_back G.slot p e G.has G.is in
+        let behind : page_of slot e ≡ p = ap (λ (s : SlotOf). page_of s e) (sym (same_slot e G.id G.slot near G.live back.0)) ∙ back.1 in
+        let with_page : p / level_span level ≡ page / level_span level = sym (ap (λ n. n / level_span level) behind) ∙ (places e near).2 in
+        let on_run : IsOnRun p (Some run) = subst (IsOnRun p) is given.1 in
+        let O = I.own_pages i run lt opened is in
+        let same = (alike p with_page).1.same_level in
+        let most_there = O.most p on_run in
+        let least : level ≤ host_level (v.words area.Host page) = subst (λ w. level ≤ host_level w) looked large in
+        let in_one : p / level_span run.level ≡ page / level_span run.level =
+        in_wider level run.level p page from (omega (arith, same, most_there, least)) (let top = O.level.1 in omega (arith, top)) with_page in
+        let page_on : IsOnRun page own_.pages = subst (IsOnRun page) (sym is) (sym in_one ∙ on_run) in
+        let B = behind_it slot gfn M.looked_up.found.holds in
+        fresh ((I.scopes i lt opened (ap is_some is)).covers page gfn page_on
+        (record { id = t.search.id - 1; slot = slot; live = live; has = B.0; is = B.1 }))
+
+    page_meets : (run : PageRun) → own_.pages ≡ Some run → IsIn own_ other → ⊥
+    page_meets run is is_in = by (cases_lt gfn own_.start) (cases_lt gfn own_.end)
       where
-        of_pages : (page : ℕ) × IsOnRun page own_.pages × SlotGives (v.words area.Pool) (v.words area.Slots 0) page other
-        of_pages = (I.scopes i lt opened some).only other is_in
+        O : IsOfPages (v.words area.Pool) (v.words area.Slots 0) own_
+        O = I.scopes i lt opened (ap is_some is)
 
-        p : ℕ
-        p = of_pages.0
+        some : own_.start < own_.end
+        some = let low = is_in.0 in let high = is_in.1 in omega (arith, low, high)
 
-        G : SlotGives (v.words area.Pool) (v.words area.Slots 0) p other
-        G = of_pages.2
-
-        back : (contains other G.slot ≡ true) × (page_of G.slot other ≡ p)
-        back = given_back G.slot p other G.has G.is
-
-        is_behind : page_of slot other ≡ p
-        is_behind = ap (λ (s : SlotOf). page_of s other) (sym (same_slot other G.id G.slot in_run G.live back.0)) ∙ back.1
-
-        by : (1 < level) ⊎ (level ≤ 1) → ⊥
-        by (inl above) =
-            let A = (alike p (sym (ap (λ n. n / level_span level) is_behind) ∙ (places other in_run).2)).1 in
-            let same = A.same_level in
-            let one = I.small_changes i p lt opened of_pages.1 in
-            let least : level ≤ host_level (v.words area.Host page) = subst (λ w. level ≤ host_level w) looked large in
-            omega (arith, above, same, one, least)
-        by (inr lowest) = fresh (subst (IsIn own_) (one_frame level other gfn (omega (arith, from, lowest)) in_run) is_in)
+        by : (gfn < own_.start) ⊎ (own_.start ≤ gfn) → (gfn < own_.end) ⊎ (own_.end ≤ gfn) → ⊥
+        by (inl below) x =
+            gives_none run is own_.start (between_spans level from most gfn other own_.start in_run (omega (arith, below)) is_in.0) (O.first some)
+        by (inr low) (inl high) = fresh (low, high)
+        by (inr low) (inr above) =
+            let last : ℕ = own_.end - 1 in
+            let before : other ≤ last = (let high = is_in.1 in omega (arith, high)) in
+            let at = between_spans level from most other gfn last (sym in_run) before (omega (arith, above, some)) in
+            gives_none run is last (at ∙ in_run) (O.last some)
 
     pub none_meets : IsIn own_ other → ⊥
     none_meets is_in = by own_.pages refl
       where
         by : (p : Option PageRun) → own_.pages ≡ p → ⊥
         by None is = slot_meets is is_in
-        by (Some run) is = page_meets (ap is_some is) is_in
+        by (Some run) is = page_meets run is is_in
 
   -- The leaf over the run is the one that slots and host give each guest frame of it.
   pub run_leaf : AreSizes z → (writes : Bool) (other : ℕ) → IsInRun level gfn other

@@ -31,6 +31,7 @@ use Rattle.mmu_core.proofs.pages.Standing.{spot_after, up_after}
 use Rattle.mmu_core.proofs.words.PartTopics.{behind_step}
 use Rattle.mmu_core.proofs.words.PartWords.{areas_stay}
 use Rattle.mmu_core.proofs.pages.PutLeaves.{put_meets_none}
+use Rattle.mmu_core.proofs.held.KeptEmpty.{changed_empty}
 
 -- It says nothing of what is no leaf.
 no_leaf_light : (own_ : Invalidated) → IsLight (IsNoLeafIn own_)
@@ -117,6 +118,7 @@ own_zapped z v a note (part.SetCount count) S I = λ is_open asked.
     (answer_in (part_task (part.SetCount count) a (v.hand a).topics note) v.words)) is_open) asked)
 own_zapped z v a note part.Publish S I = λ is_open.
     absurd (published_none (v.hand a).topics.invalidations.opened (v.hand a).topics.invalidations.own.pages S.needs.of_no_page is_open)
+own_zapped z v a note part.ChangeNext S I = λ is_open asked. (I.zapped a S.there (changed_empty (v.hand a).topics _ is_open) asked, tt)
 own_zapped z v a note part.Give S I = λ is_open asked. (I.zapped a S.there (given_empty (v.hand a).topics S.needs.0 is_open) asked, tt)
 own_zapped z v a note part.GiveOld S I = λ is_open.
     absurd (let closed = S.needs.closed in let opened = empty_open (part_topics part.GiveOld (v.hand a).topics 0) is_open in cc (closed, opened))

@@ -3,7 +3,7 @@ use Rattle.std.proofs.Common.{◌≡◌, ◌<◌, length, refl}
 use Rattle.std.specs.Prelude.{All, Option, Some, None}
 use Rattle.core_views.specs.declared.memory_slot.MemorySlot.{MemorySlot}
 use Rattle.core_views.specs.declared.trace.Command.{Command}
-use Rattle.core_views.specs.declared.trace.Command.TheVariants.{Access, ChangeHost, ChangeRun, ClearLog, DeleteSlot, GetLog, Migrate, SetLog, SetSlot}
+use Rattle.core_views.specs.declared.trace.Command.TheVariants.{Access, ChangeHost, ChangeRun, ClearLog, DeleteSlot, GetLog, Migrate, SetLog, SetSlot, Split}
 use Rattle.core_views.specs.Held.{Held}
 use Rattle.core_views.specs.Refusals.{is_logged}
 use Rattle.core_views.specs.SlotCommands.{after_change, slots_after}
@@ -31,4 +31,5 @@ change_recorded h (SetLog id on) left is set = by (slot_of_id id h.slots) refl
         set_by_with h.lines id (record { slot = was.slot; logged = on }) h.slots (set_by_at h.lines id was h.slots at set) set
 change_recorded h (GetLog id) left is set = set
 change_recorded h (Migrate call) left is set = set
+change_recorded h (Split gfn) left is set = set
 change_recorded h (ClearLog id first count words) left is set = set

@@ -9,7 +9,7 @@ use Rattle.core_views.specs.declared.place.Place.{Place}
 use Rattle.core_views.specs.declared.sizes.Sizes.{Sizes}
 use Rattle.core_views.specs.declared.memory_slot.MemorySlot.{MemorySlot}
 use Rattle.core_views.specs.declared.trace.Command.{Command}
-use Rattle.core_views.specs.declared.trace.Command.TheVariants.{Access, ChangeHost, ChangeRun, ClearLog, DeleteSlot, GetLog, Migrate, SetLog, SetSlot}
+use Rattle.core_views.specs.declared.trace.Command.TheVariants.{Access, ChangeHost, ChangeRun, ClearLog, DeleteSlot, GetLog, Migrate, SetLog, SetSlot, Split}
 use Rattle.core_views.specs.declared.trace.Line.{Line}
 use Rattle.core_views.specs.declared.trace.Slot.{Slot}
 use Rattle.core_views.proofs.SlotChanges.{none_refused}
@@ -45,6 +45,8 @@ pub change_is_managers : (z : Sizes) (actor : Actor) (command : Command) → cha
 change_is_managers z Manager command is may = refl
 change_is_managers z _ (Access gfn word op) is may = absurd (cc is)
 change_is_managers z _ (ChangeHost page change) is may = absurd (cc is)
+change_is_managers z _ (ChangeRun page change) is may = absurd (cc is)
+change_is_managers z _ (Split gfn) is may = absurd (cc is)
 change_is_managers z _ _ is may = absurd may
 
 -- It has a change.
@@ -57,6 +59,7 @@ is_change (DeleteSlot id) slots is = refl
 is_change (SetLog id on) slots is = refl
 is_change (GetLog id) slots is = is
 is_change (Migrate call) slots is = is
+is_change (Split gfn) slots is = is
 is_change (ClearLog id first count words) slots is = is
 
 -- The words of the set that it fills are below 2 ^ 64.
@@ -72,6 +75,7 @@ change_small z lines actor (DeleteSlot id) slots is may allowed set j = set_word
 change_small z lines actor (SetLog id on) slots is may allowed set j = set_word_logged id on slots j (record_small z lines slots allowed set)
 change_small z lines actor (GetLog id) slots is may allowed set j = absurd (cc is)
 change_small z lines actor (Migrate call) slots is may allowed set j = absurd (cc is)
+change_small z lines actor (Split gfn) slots is may allowed set j = absurd (cc is)
 change_small z lines actor (ClearLog id first count words) slots is may allowed set j = absurd (cc is)
 
 -- The manager's own record, where its hand makes a step of such a line.
@@ -197,6 +201,7 @@ change_publishes z v a line (SetLog id on) p S changes I owns works filled =
     (filled_page (v.words area.Pool) (slots_after (SetLog id on) (v.hand a).slots) (v.hand a).topics owns filled)
 change_publishes z v a line (GetLog id) p S changes I owns works filled = absurd (cc changes)
 change_publishes z v a line (Migrate call) p S changes I owns works filled = absurd (cc changes)
+change_publishes z v a line (Split gfn) p S changes I owns works filled = absurd (cc changes)
 change_publishes z v a line (ClearLog id first count words) p S changes I owns works filled = absurd (cc changes)
 
 -- A slot of the record is live, and so it fits the machine.
@@ -246,6 +251,7 @@ invalidated_live pool set slots command slot R is = by command is
     by (SetLog id on) is = absurd (cc is)
     by (GetLog id) is = absurd (cc is)
     by (Migrate call) is = absurd (cc is)
+    by (Split gfn) is = absurd (cc is)
     by (ClearLog id first count words) is = absurd (cc is)
 
 pub invalidated_fits : (z : Sizes) (pool : ℕ → ℕ) (set : ℕ) (slots : MemorySlots) (command : Command) (slot : Slot) → RecordPart pool set slots
@@ -280,4 +286,5 @@ armed_fits z pool set lines slots command slot R A allowed by_lines is = by comm
     by (DeleteSlot id) is = absurd (cc is)
     by (GetLog id) is = absurd (cc is)
     by (Migrate call) is = absurd (cc is)
+    by (Split gfn) is = absurd (cc is)
     by (ClearLog id first count words) is = absurd (cc is)

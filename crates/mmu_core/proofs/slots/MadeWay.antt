@@ -13,7 +13,7 @@ use Rattle.core_views.specs.declared.trace.Slot.{Slot}
 use Rattle.part_steps.specs.declared.invalidations.Target.TheVariants as aim
 use Rattle.part_steps.specs.declared.part_step.PartStep.TheVariants as part
 use Rattle.part_steps.specs.ControlTopics.{count_checked}
-use Rattle.part_steps.specs.InvalidationRange.{IsAimed, page_of_look}
+use Rattle.part_steps.specs.InvalidationRange.{IsAimed, run_of_look}
 use Rattle.part_steps.specs.LockHoldings.{HasFlushedAll}
 use Rattle.part_steps.specs.SetHoldings.{OwnsSet, own_open}
 use Rattle.part_steps.specs.PartSteps.{IsFree}
@@ -49,7 +49,7 @@ way_live pool set slots command R some = by (slot_invalidated slots command) ref
 
 -- Who owns the page of a slot set may change no host page, and so invalidates a slot.
 pub owns_aimed : (slot : Slot) (t : Topics) → OwnsSet t → IsAimed (aim.Slot slot) t
-owns_aimed slot t O = ap (λ (owns : Bool). if owns then None else page_of_look t.host) (some_filled t.owned 513 O.whole (omega arith))
+owns_aimed slot t O = (ap (λ (owns : Bool). if owns then None else run_of_look t.host t.row) (some_filled t.owned 513 O.whole (omega arith)), tt)
 
 -- Whoever holds nothing but a page is outside, without the lock, and has no table and no set.
 pub free_holds : (t : Topics) → IsFree t → HoldsLock Loose t

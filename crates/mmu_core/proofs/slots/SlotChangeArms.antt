@@ -7,7 +7,7 @@ use Rattle.core_views.specs.SlotCommands.{arms, slot_armed, slot_invalidated, sl
 use Rattle.core_views.specs.SlotSets.{MemorySlots, slot_of_id}
 use Rattle.core_views.specs.declared.memory_slot.MemorySlot.{MemorySlot}
 use Rattle.std.specs.Option.{option_map}
-use Rattle.core_views.specs.declared.trace.Command.TheVariants.{Access, ChangeHost, ChangeRun, ClearLog, DeleteSlot, GetLog, Migrate, SetLog, SetSlot}
+use Rattle.core_views.specs.declared.trace.Command.TheVariants.{Access, ChangeHost, ChangeRun, ClearLog, DeleteSlot, GetLog, Migrate, SetLog, SetSlot, Split}
 use Rattle.mmu_core.specs.forms.slot_change.SlotChangeKnows.{ArmsThere}
 use Rattle.core_views.proofs.SlotLines.{log_here, logged_so}
 
@@ -22,6 +22,7 @@ armed_is slots (SetSlot id new_) slot is = absurd (cc is)
 armed_is slots (DeleteSlot id) slot is = absurd (cc is)
 armed_is slots (GetLog id) slot is = absurd (cc is)
 armed_is slots (Migrate call) slot is = absurd (cc is)
+armed_is slots (Split gfn) slot is = absurd (cc is)
 armed_is slots (ClearLog id first count words) slot is = absurd (cc is)
 
 pub none_moved : (slots : MemorySlots) (command : Command) → arms command ≡ true → is_some (slot_invalidated slots command) ≡ false
@@ -33,6 +34,7 @@ none_moved slots (SetSlot id new_) is = absurd (cc is)
 none_moved slots (DeleteSlot id) is = absurd (cc is)
 none_moved slots (GetLog id) is = absurd (cc is)
 none_moved slots (Migrate call) is = absurd (cc is)
+none_moved slots (Split gfn) is = absurd (cc is)
 none_moved slots (ClearLog id first count words) is = absurd (cc is)
 
 -- It is there still after the publication of the set with the log.
@@ -51,4 +53,5 @@ published_there slots (SetSlot id new_) there is = absurd (cc is)
 published_there slots (DeleteSlot id) there is = absurd (cc is)
 published_there slots (GetLog id) there is = absurd (cc is)
 published_there slots (Migrate call) there is = absurd (cc is)
+published_there slots (Split gfn) there is = absurd (cc is)
 published_there slots (ClearLog id first count words) there is = absurd (cc is)

@@ -1,5 +1,5 @@
 -- Host words at the start: each page is present, at a frame of its own, and small.
-use Rattle.std.proofs.Common.{◌≡◌, ◌<◌, ◌≤◌, ℕ, refl, sym, subst, ap, ◌∙◌, arith}
+use Rattle.std.proofs.Common.{◌≡◌, ◌<◌, ℕ, refl, sym, subst, ap, ◌∙◌, arith}
 use Rattle.std.specs.Prelude.{true, nat_lt, List}
 use Rattle.std.proofs.lemmas.Bool.Decides.{nat_tests}
 use Rattle.core_views.specs.declared.sizes.Sizes.{Sizes}
@@ -10,12 +10,11 @@ use Rattle.spte_words.specs.declared.area.Area.TheVariants as area
 use Rattle.spte_words.specs.HostWords.{host_level, host_word}
 use Rattle.spte_words.proofs.ReadsHost.{host_has_level}
 use Rattle.mmu_core.specs.invariant.HostWordsPart.{HostWordsPart, IsHostWord}
-use Rattle.mmu_core.specs.invariant.RunsPart.{IsOneRun, RunsPart}
+use Rattle.mmu_core.specs.invariant.RunsPart.{RunsPart}
 use Rattle.mmu_core.specs.machine.Machine.{World}
 use Rattle.mmu_core.specs.machine.View.{word_in}
 use Rattle.mmu_core.specs.machine.Worlds.{AreStartWords, IsStart}
-use Rattle.mmu_core.proofs.held.RunsKept.{alone_alike}
-use Rattle.mmu_core.proofs.held.WalkSpans.{one_frame}
+use Rattle.mmu_core.proofs.held.PageRuns.{one_alone}
 use Rattle.mmu_core.proofs.start.StartWords.{word_at_start}
 use Rattle.mmu_core.proofs.words.HostStays.{is_word_of}
 
@@ -36,7 +35,4 @@ levels_start z lines w start p lt = ap host_level (host_at_start z w p start.wor
 -- Where all pages are small each run is of one page.
 pub small_runs : (z : Sizes) (n : ℕ) (host : ℕ → ℕ) (topics : ℕ → Topics) → ((p : ℕ) → p < z.pages → host_level (host p) ≡ 1) → RunsPart z n host topics
 small_runs z n host topics small page level other there none from large in_run =
-    let one = small page there in
-    let lowest : level ≤ 1 = omega (arith, one, large) in
-    subst (λ q. (q < z.pages) × IsOneRun level host page q) (sym (one_frame level other page (omega (arith, from, lowest)) in_run))
-    (there, alone_alike level host page lowest)
+    let one = small page there in one_alone z level page other host there from (omega (arith, one, large)) in_run

@@ -43,6 +43,8 @@ use Rattle.core_views.specs.declared.topics.HostLook.{HostLook}
 use Rattle.mmu_core.proofs.start.StartFrames.{start_frames, start_use}
 use Rattle.mmu_core.proofs.start.StartHosts.{host_at_start, hosts_start, levels_start, small_runs}
 use Rattle.mmu_core.proofs.start.StartPages.{each_page, none_under, only_zero, root_only, start_spot, start_up}
+use Rattle.part_steps.specs.PartBounds.{IsLowRow}
+use Rattle.mmu_core.specs.invariant.InvalidatedPart.{CollectedPart}
 
 -- what actors hold of the parts: nothing
 topics_are : (z : Sizes) (lines : List Line) (w : World Held) (i : ℕ) → IsStart z lines w → i < actors_of z → (hand_in mmu w i).topics ≡ first_topics
@@ -272,7 +274,12 @@ start_topics z lines w start = record {
   zapped = λ i lt emptied asked. absurd (none_open_yet z lines w i start lt (empty_open (hand_in mmu w i).topics emptied));
   slot_scopes = λ i lt is. absurd (none_open_yet z lines w i start lt is);
   runs = small_runs z _ _ _ (levels_start z lines w start);
-  small_changes = λ i page lt is. absurd (none_open_yet z lines w i start lt is);
+  own_pages = λ i run lt is. absurd (none_open_yet z lines w i start lt is);
+  changes = λ i run lt is. absurd (none_open_yet z lines w i start lt is);
+  own_rows = λ i look lt is. absurd (looks_none z lines w i look start lt is);
+  collected = λ i lt. subst (CollectedPart (word_in z w area.Pool)) (sym (topics_are z lines w i start lt)) (λ alone. absurd (cc alone));
+  low_rows = λ i lt. subst (λ (t : Topics). IsLowRow t.row) (sym (topics_are z lines w i start lt))
+      (record { start = omega arith; end_ = omega arith });
   few_ended = let none = seq_start z lines w start in omega (arith, none);
   counters = λ i lt. subst (CountersPart z) (sym (topics_are z lines w i start lt)) (counters_first z);
 }

@@ -6,7 +6,10 @@ use Rattle.core_views.specs.declared.sizes.Sizes.{Sizes}
 use Rattle.spte_words.specs.declared.area.Area.TheVariants as area
 use Rattle.part_steps.specs.declared.part_step.PartStep.{PartStep}
 use Rattle.part_steps.specs.declared.part_step.PartStep.TheVariants as part
+use Rattle.core_views.specs.declared.topics.PageRun.{PageRun}
+use Rattle.part_steps.specs.PageRuns.{level_put, word_given, word_seen}
 use Rattle.part_steps.specs.PartTasks.{page_looked, word_looked}
+use Rattle.mmu_core.proofs.held.NextPages.{next_found, next_own, next_page, next_there, next_words}
 use Rattle.part_steps.specs.StayTopics.{has_lock}
 use Rattle.mmu_core.specs.invariant.InvalidationsPart.{knows_seq}
 use Rattle.mmu_core.specs.invariant.TopicsInvariant.{TopicsInvariant}
@@ -23,6 +26,7 @@ use Rattle.spte_words.proofs.ReadsHost.{host_has_frame, host_is_present, host_ha
 pub host_stays : (v : View) (a : ℕ) (step : PartStep) (note : ℕ) → changes_word step ≡ false → (part_stepped a step note v).words area.Host ≡ v.words area.Host
 host_stays v a part.Bring note other = absurd (cc other)
 host_stays v a (part.Change new_) note other = absurd (cc other)
+host_stays v a part.ChangeNext note other = absurd (cc other)
 host_stays v a _ note other = refl
 
 -- ---- host words
@@ -40,6 +44,20 @@ is_word_of frames frame present allowed level low from few =
       omega (arith, same, low),
       omega (arith, of_level, from),
     )
+
+-- The level that pages of a run are given is one of those that leaves have.
+pub put_either : (P : ℕ → Type 0) (run : PageRun) → P run.level → P 1 → P (level_put run)
+put_either P run own one = by (host_level run.word == 1)
+  where
+    by : (b : Bool) → P (if b then run.level else 1)
+    by true = own
+    by false = one
+
+pub put_low : (run : PageRun) → run.level ≤ 3 → level_put run < 4
+put_low run most = put_either (λ n. n < 4) run (omega (arith, most)) (omega arith)
+
+pub put_some : (run : PageRun) → 1 ≤ run.level → 1 ≤ level_put run
+put_some run least = put_either (λ n. 1 ≤ n) run least (omega arith)
 
 -- With other bits a host word is one, and it names the same frame.
 pub level_low : (word : ℕ) → host_level word < 4
@@ -111,6 +129,25 @@ put_word z v a new_ S I =
     changed_word z.frames (v.hand a).state.sizes.words (v.hand a).topics.frames.owned (word_looked (v.hand a).topics.host) new_
     (λ o is. owned_frame_there I.frames a o S.there is) S.needs.1
 
+-- So is the word that is given to the next page of a run; it names the same frame.
+pub given_frame : (z : Sizes) (v : View) (a : ℕ) (S : IsPart z v a part.ChangeNext) (I : TopicsInvariant z v)
+    → host_frame (word_given S.needs.run (next_page z v a S I)) ≡ host_frame (v.words area.Host (next_page z v a S I))
+given_frame z v a S I =
+    let run : PageRun = S.needs.run in
+    let seen : ℕ = word_seen run (next_page z v a S I) in
+    host_has_frame (host_frame seen) (host_present seen) (host_allows_write seen) (level_put run) (put_low run (next_own z v a S I).level.1)
+    ∙ ap host_frame (sym (next_found z v a S I))
+
+pub given_word : (z : Sizes) (v : View) (a : ℕ) (S : IsPart z v a part.ChangeNext) (I : TopicsInvariant z v)
+    → IsHostWord z.frames (word_given S.needs.run (next_page z v a S I))
+given_word z v a S I =
+    let run : PageRun = S.needs.run in
+    let seen : ℕ = word_seen run (next_page z v a S I) in
+    let low : host_frame seen < z.frames =
+    subst (λ w. host_frame w < z.frames) (next_found z v a S I) (I.hosts (next_page z v a S I) (next_there z v a S I)).1 in
+    is_word_of z.frames (host_frame seen) (host_present seen) (host_allows_write seen) (level_put run) low
+    (put_some run (next_own z v a S I).level.0) (put_low run (next_own z v a S I).level.1)
+
 hosts_behind : (z : Sizes) (v : View) (a note : ℕ) (step : PartStep) → IsPart z v a step → TopicsInvariant z v
     → HostWordsPart z ((part_stepped a step note v).words area.Host)
 hosts_behind z v a note step S I = by step S
@@ -132,6 +169,10 @@ hosts_behind z v a note step S I = by step S
     by : (step : PartStep) → IsPart z v a step → HostWordsPart z ((part_stepped a step note v).words area.Host)
     by part.Bring S = put _ (brought_word z.frames looked)
     by (part.Change new_) S = put new_ (put_word z v a new_ S I)
+    by part.ChangeNext S =
+        subst (HostWordsPart z) (sym (next_words z v a S I note))
+        (at_upd (λ (q w : ℕ). q < z.pages → IsHostWord z.frames w) host (next_page z v a S I) _
+        (λ there. given_word z v a S I) (λ q ne there. I.hosts q there))
     by _ S = I.hosts
 
 -- ---- what was seen of a page
@@ -206,10 +247,15 @@ exchanged_level found old_ new_ same = by (found == old_) (λ e. grind (arith, n
     by true is = same ∙ ap host_level (sym (is refl))
     by false is = refl
 
--- Each step of a part leaves each page at its level.
-pub levels_stay : (z : Sizes) (v : View) (a : ℕ) (step : PartStep) (note : ℕ) → IsPart z v a step
+-- The step changes a page of a run.
+abbrev pub changes_run : PartStep → Bool
+changes_run part.ChangeNext = true
+changes_run _ = false
+
+-- Each other step of a part leaves each page at its level.
+pub levels_stay : (z : Sizes) (v : View) (a : ℕ) (step : PartStep) (note : ℕ) → changes_run step ≡ false → IsPart z v a step
     → (q : ℕ) → host_level ((part_stepped a step note v).words area.Host q) ≡ host_level (v.words area.Host q)
-levels_stay z v a step note S = by step S
+levels_stay z v a step note other S = by step other S
   where
     host : ℕ → ℕ
     host = v.words area.Host
@@ -224,7 +270,9 @@ levels_stay z v a step note S = by step S
         → host_level (upd host page (if host page == looked then new_ else host page) q) ≡ host_level (host q)
     put new_ same = at_upd (λ (q w : ℕ). host_level w ≡ host_level (host q)) host page _ (exchanged_level (host page) looked new_ same) (λ q ne. refl)
 
-    by : (step : PartStep) → IsPart z v a step → (q : ℕ) → host_level ((part_stepped a step note v).words area.Host q) ≡ host_level (host q)
-    by part.Bring S = put _ (host_has_level (host_frame looked) true (host_allows_write looked) (host_level looked) (level_low looked))
-    by (part.Change new_) S = put new_ (revised_level (v.hand a).state.sizes.words (v.hand a).topics.frames.owned looked new_ S.needs.1)
-    by _ S = λ q. refl
+    by : (step : PartStep) → changes_run step ≡ false → IsPart z v a step
+        → (q : ℕ) → host_level ((part_stepped a step note v).words area.Host q) ≡ host_level (host q)
+    by part.ChangeNext other S = absurd (cc other)
+    by part.Bring other S = put _ (host_has_level (host_frame looked) true (host_allows_write looked) (host_level looked) (level_low looked))
+    by (part.Change new_) other S = put new_ (revised_level (v.hand a).state.sizes.words (v.hand a).topics.frames.owned looked new_ S.needs.1)
+    by _ other S = λ q. refl

@@ -16,7 +16,7 @@ use Rattle.part_steps.specs.Tasks.{kind_of_task, map_of}
 use Rattle.part_steps.specs.StayTopics.{is_loose, kept_search, may_search, may_walk, has_lock}
 use Rattle.part_steps.specs.FrameTopics.{word_stored}
 use Rattle.part_steps.specs.PageTopics.{filled_more}
-use Rattle.part_steps.specs.ControlTopics.{at_root, at_set, at_word, controlled, count_checked, range_checked, seq_checked, start_checked}
+use Rattle.part_steps.specs.ControlTopics.{at_root, at_set, at_word, controlled, count_checked, range_checked, seq_checked, start_checked, uncovered}
 use Rattle.part_steps.specs.ControlBits.{frames_begin, frames_end, is_content, is_frame_map, is_pool_map, map_begins, map_ends}
 use Rattle.part_steps.specs.TopicSteps.{topics_after, word_filled}
 
@@ -78,6 +78,7 @@ told_so root slots seq count start end_ pause claim of_frame t v = record t {
   walk = if root then at_root (may_walk t.stay t.hold) t.walk v else t.walk;
   search = if slots then at_set (may_search t.stay t.hold) t.search v else if seq && is_loose t.hold then kept_search false t.search else t.search;
   host = if seq && is_loose t.hold then None else t.host;
+  row = if slots then uncovered t.row else t.row;
   invalidations = record t.invalidations {
     snapshot = if seq && is_loose t.hold then Some v else t.invalidations.snapshot;
     count = if count then v else t.invalidations.count;

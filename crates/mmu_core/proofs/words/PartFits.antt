@@ -22,6 +22,10 @@ use Rattle.part_steps.specs.SweepTopics.{gone_up}
 use Rattle.part_steps.specs.PartTasks.{IsWithin, all_but, leaf_written, link_written, own_index, page_owned, part_kind, part_task, set_held}
 use Rattle.part_steps.specs.PartTasks.{table_page, word_looked, words_filled, page_retired, page_looked, number_or_none, page_owed, puts_write}
 use Rattle.core_views.specs.declared.topics.OwnedFrame.{OwnedFrame}
+use Rattle.core_views.specs.declared.topics.PageRun.{PageRun}
+use Rattle.part_steps.specs.PageRuns.{IsOnRun, level_put, page_next, word_given, word_seen}
+use Rattle.part_steps.specs.PartTasks.{page_to_change, word_to_give}
+use Rattle.mmu_core.proofs.words.RunSpans.{next_on_run}
 use Rattle.part_steps.specs.FrameHoldings.{revises}
 use Rattle.part_steps.specs.FrameTopics.{frame_owned}
 use Rattle.part_steps.proofs.FrameWords.{copied_within, stored_within}
@@ -33,7 +37,7 @@ use Rattle.part_steps.specs.SlotWords.{field_number, leaf_of, may_write, slot_in
 use Rattle.part_steps.specs.Tasks.{map_of}
 use Rattle.part_steps.specs.PageTopics.{tried_bit}
 use Rattle.mmu_core.proofs.pages.Owned.{owned_some, some_filled}
-use Rattle.mmu_core.proofs.words.HostStays.{each_revision}
+use Rattle.mmu_core.proofs.words.HostStays.{each_revision, put_low}
 use Rattle.spte_words.specs.Entries.{can_write, level_span, write_bit}
 use Rattle.spte_words.proofs.FixedEntries.{fixed_fits}
 use Rattle.mmu_core.proofs.forms.access.FaultSame.{both, is_not, over_it}
@@ -98,6 +102,10 @@ page_marked h M R =
     let high = R.found M.found.whole in
     omega (arith, B.0, B.1, high)
 
+-- the page of a run that is changed next
+next_of : (run : PageRun) → run.level ≤ 3 → 2 ≤ run.level → run.changed < level_span run.level → IsOnRun (page_next run) (Some run)
+next_of run most several left = (next_on_run run (omega (arith, several)) (omega (arith, most)) left).0
+
 pub part_within_by : (step : PartStep) (h : Held) (note : ℕ) → PartNeeds step h → PartRests h → IsWithinBy h step note
 part_within_by part.Enter h note N R = R.own_place
 part_within_by part.Leave h note N R = R.own_place
@@ -127,6 +135,10 @@ part_within_by (part.Ask index) h note N R = vcpu_within index h.state.sizes N.l
 part_within_by (part.Await index) h note N R = vcpu_within index h.state.sizes (let few = R.counters.asked in omega (arith, few, N.0))
 part_within_by part.Bring h note N R = looked_there h N.looked R
 part_within_by (part.Change new_) h note N R = looked_there h N.0.looked R
+part_within_by (part.HostOn page) h note N R = N.0
+part_within_by part.ChangeNext h note N R =
+    let C = R.changing N.run N.opened N.unraised N.is N.several in
+    subst (λ (pages : Option PageRun). page_to_change pages < h.state.sizes.pages) (sym N.is) (C.there (page_next N.run) (next_of N.run C.most N.several N.left))
 part_within_by (part.FrameMap word) h note N R = N.1
 part_within_by part.Frame h note N R = N.2
 part_within_by (part.Copy index) h note N R = copied_within h index R N
@@ -181,6 +193,12 @@ word_small words owned word new_ few owned_few is =
     (λ none. word_fits word (host_frame word) false (host_allows_write word) few)
     (λ o at full. word_fits word o.frame (host_present word) (host_allows_write word) (owned_few o at)) is
 
+-- So has the word that is given to a page of a run.
+given_small : (run : PageRun) (page frames : ℕ) → run.level ≤ 3 → frames ≤ 2097152 → host_frame (word_seen run page) < frames → word_given run page < 2 ^ 64
+given_small run page frames most few low =
+    host_fits (host_frame (word_seen run page)) (host_present (word_seen run page)) (host_allows_write (word_seen run page)) (level_put run)
+    (omega (arith, few, low)) (put_low run most)
+
 -- The count that is stored is one more or one less than one that was loaded.
 count_small : (h : Held) (count : ℕ) → MayCount count h.topics → PartRests h → count < 2 ^ 64
 count_small h count M R = rw M.is (by h.topics.invalidations.opened)
@@ -225,6 +243,10 @@ part_small (part.SetSeq seq) h note N R = let is = N.1 in let few = R.counters.s
 part_small part.Bring h note N R =
     word_fits (word_looked h.topics.host) (host_frame (word_looked h.topics.host)) true (host_allows_write (word_looked h.topics.host))
     (looked_few h N.looked R)
+part_small part.ChangeNext h note N R =
+    let C = R.changing N.run N.opened N.unraised N.is N.several in
+    subst (λ (pages : Option PageRun). word_to_give pages < 2 ^ 64) (sym N.is)
+    (given_small N.run (page_next N.run) h.state.sizes.frames C.most R.sizes.frames.1 (C.frames (page_next N.run) (next_of N.run C.most N.several N.left)))
 part_small (part.Change new_) h note N R =
     word_small h.state.sizes.words h.topics.frames.owned (word_looked h.topics.host) new_ (looked_few h N.0.looked R)
     (λ o is. let there = R.frame o is in omega (arith, there, R.sizes.frames.1)) N.1

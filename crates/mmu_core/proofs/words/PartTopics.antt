@@ -19,7 +19,7 @@ use Rattle.part_steps.specs.declared.task.Task.{Task}
 use Rattle.mmu_core.specs.forms.access.Cached.{flushed}
 use Rattle.part_steps.specs.declared.part_step.PartStep.{PartStep}
 use Rattle.part_steps.specs.declared.part_step.PartStep.TheVariants as part
-use Rattle.part_steps.specs.PartTasks.{entry_index, entry_task, leaf_written, link_written, part_task, table_page, word_looked, page_looked}
+use Rattle.part_steps.specs.PartTasks.{changes_next, entry_index, entry_task, leaf_written, link_written, part_task, table_page, word_looked, word_next, page_looked}
 use Rattle.part_steps.specs.PartTasks.{page_retired, page_owned, words_filled, leaf_fixed}
 use Rattle.part_steps.specs.PartSteps.{PartNeeds}
 use Rattle.part_steps.specs.PartTopics.{changed_host, exchanged, part_topics, exchanged_host}
@@ -32,7 +32,9 @@ use Rattle.part_steps.specs.SweepTopics.{at_top, gone_up, has_entry, is_sweeping
 use Rattle.part_steps.specs.WalkTopics.{is_in_table, still_owned, swapped, walked, gone_down, owed_after}
 use Rattle.part_steps.specs.ControlBits.{in_section}
 use Rattle.part_steps.specs.ControlBits.{has_to_flush}
-use Rattle.part_steps.specs.TopicSteps.{host_begins, index_in_page, log_begins, topics_after}
+use Rattle.part_steps.specs.PageRuns.{is_several, looked_on, one_look}
+use Rattle.part_steps.specs.TopicSteps.{host_begins, index_in_page, log_begins, page_changed, run_changed, topics_after}
+use Rattle.mmu_core.proofs.words.RunSpans.{several_is}
 use Rattle.mmu_core.specs.machine.View.{View, answer_in, part_stepped, upd, words_after}
 use Rattle.mmu_core.proofs.machine.PartStepping.{IsPart}
 use Rattle.spte_words.specs.HostWords.{with_presence}
@@ -53,6 +55,8 @@ IsThere z t (part.Leaf gfn write) = 1 ≤ t.walk.level
 IsThere z t (part.Fix gfn) = 1 ≤ t.walk.level
 IsThere z t (part.Zap gfn) = 1 ≤ t.walk.level
 IsThere z t (part.Protect gfn) = 1 ≤ t.walk.level
+IsThere z t (part.Change new_) = is_several t.invalidations.own.pages ≡ false
+IsThere z t part.ChangeNext = is_several t.invalidations.own.pages ≡ true
 IsThere z t _ = Unit {0}
 
 state_place : (z : Sizes) (i : ℕ) → place (map_of z) area.State i - number_of area.State ≡ i
@@ -125,18 +129,23 @@ left_topics z gfn x t from =
 host_topics : (z : Sizes) (new_ : ℕ) (t : Topics) (v : ℕ)
     → record t {
       host = Some (record { page = place (map_of z) area.Host (page_looked t.host) - host_begins z; word = if v == word_looked t.host then new_ else v });
+      row = one_look;
     }
     ≡ exchanged_host new_ t v
 host_topics z new_ t v =
-    ap (λ p. record t { host = Some (record { page = p; word = if v == word_looked t.host then new_ else v }) }) (behind_host z (page_looked t.host))
+    ap (λ p. record t { host = Some (record { page = p; word = if v == word_looked t.host then new_ else v }); row = one_look })
+    (behind_host z (page_looked t.host))
 
-changed_topics : (z : Sizes) (new_ : ℕ) (t : Topics) (v : ℕ)
-    → record (changed_host new_ t v) {
+changed_topics : (z : Sizes) (new_ : ℕ) (t : Topics) (v : ℕ) → is_several t.invalidations.own.pages ≡ false
+    → (if is_several t.invalidations.own.pages then run_changed (v == word_looked t.host) t else record (changed_host new_ t v) {
       host = Some (record { page = place (map_of z) area.Host (page_looked t.host) - host_begins z; word = if v == word_looked t.host then new_ else v });
-    }
+    })
     ≡ changed_host new_ t v
-changed_topics z new_ t v =
-    ap (λ p. record (changed_host new_ t v) { host = Some (record { page = p; word = if v == word_looked t.host then new_ else v }) })
+changed_topics z new_ t v single =
+    ap (λ (b : Bool). if b then run_changed (v == word_looked t.host) t else record (changed_host new_ t v) {
+      host = Some (record { page = place (map_of z) area.Host (page_looked t.host) - host_begins z; word = if v == word_looked t.host then new_ else v });
+    }) single
+    ∙ ap (λ p. record (changed_host new_ t v) { host = Some (record { page = p; word = if v == word_looked t.host then new_ else v }) })
     (behind_host z (page_looked t.host))
 
 -- The topics after a step are those written out above.
@@ -159,7 +168,9 @@ part_topics_is z (part.WalkAnew gfn) own t note v there =
 part_topics_is z (part.Link gfn) own t note v there = swap_topics z gfn (link_written t) note t v there
 part_topics_is z (part.Leaf gfn write) own t note v there = swap_topics z gfn (leaf_written gfn write t) note t v there
 part_topics_is z (part.Fix gfn) own t note v there = swap_topics z gfn (leaf_fixed t) note t v there
-part_topics_is z (part.Host page) own t note v there = ap (λ p. record t { host = Some (record { page = p; word = v }) }) (behind_host z page)
+part_topics_is z (part.Host page) own t note v there =
+    ap (λ p. record t { host = Some (record { page = p; word = v }); row = one_look }) (behind_host z page)
+part_topics_is z (part.HostOn page) own t note v there = ap (λ p. record t { row = looked_on t.host t.row p v }) (behind_host z page)
 part_topics_is z (part.Watch index) own t note v there = ap (λ i. record t { watched = i + (if in_section v then 0 else 1) }) (state_place z index)
 part_topics_is z (part.Zap gfn) own t note v there = left_topics z gfn 0 t there
 part_topics_is z (part.Arm word bits) own t note v there = ap (λ i. record t { next_log_word = i + 1 }) (behind_log z word)
@@ -170,7 +181,10 @@ part_topics_is z (part.Ask index) own t note v there = ap (λ i. record t { flus
 part_topics_is z (part.Await index) own t note v there = ap (λ i. record t { flush = record t.flush { awaited = i + (if has_to_flush v then 0 else 1) } })
     (state_place z index)
 part_topics_is z part.Bring own t note v there = host_topics z (with_presence true (word_looked t.host)) t v
-part_topics_is z (part.Change new_) own t note v there = changed_topics z new_ t v
+part_topics_is z (part.Change new_) own t note v there = changed_topics z new_ t v there
+part_topics_is z part.ChangeNext own t note v there =
+    ap (λ (b : Bool). if b then run_changed (v == word_next t.invalidations.own.pages) t
+    else page_changed z (kind_of_task z (changes_next t.invalidations.own.pages note)) t v) there
 part_topics_is z (part.Fill value) own t note v there =
     filled_topics z area.Pool (pool_index (page_owned t.owned) (words_filled t.owned)) t v (omega arith)
     (pool_within (map_of z) (page_owned t.owned) (words_filled t.owned) there.0 there.1)
@@ -251,6 +265,8 @@ is_there (part.Leaf gfn write) h N = N.0.saw.over.there
 is_there (part.Fix gfn) h N = N.saw.over.there
 is_there (part.Zap gfn) h N = N.saw.over.there
 is_there (part.Protect gfn) h N = N.saw.over.there
+is_there (part.Change new_) h N = ap is_several N.0.invalid
+is_there part.ChangeNext h N = several_is h.topics.invalidations.own.pages N.run N.is N.several
 is_there _ h N = tt
 
 pub part_stepped_is : (z : Sizes) (v : View) (a : ℕ) (step : PartStep) (note : ℕ) → IsPart z v a step → part_stepped a step note v ≡ part_behind a step note v

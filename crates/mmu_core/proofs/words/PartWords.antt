@@ -120,6 +120,7 @@ words_stay (part.Zap gfn) own t note words b A = put_elsewhere words area.Pool b
 words_stay (part.Ask index) own t note words b A = put_elsewhere words area.State b index _ A.state
 words_stay part.Bring own t note words b A = put_elsewhere words area.Host b _ _ A.host
 words_stay (part.Change new_) own t note words b A = put_elsewhere words area.Host b _ _ A.host
+words_stay part.ChangeNext own t note words b A = put_elsewhere words area.Host b _ _ A.host
 words_stay part.Frame own t note words b A = put_elsewhere words area.FrameMap b _ _ A.frames
 words_stay part.GiveFrame own t note words b A = put_elsewhere words area.FrameMap b _ _ A.frames
 words_stay (part.Store index) own t note words b A = put_elsewhere words area.Content b index _ A.content

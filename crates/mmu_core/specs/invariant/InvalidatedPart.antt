@@ -1,9 +1,11 @@
 -- Open invalidations: which guest frames they are of, and that from the sweep on no leaf of these is left, and nothing cached of them once a flush was awaited
 -- (mmu_notifier.rst; tdp_mmu.c, kvm_tdp_mmu_unmap_gfn_range; vcpu-requests.rst).
-use Rattle.std.specs.Prelude.{◌≡◌, ◌<◌, ◌≤◌, ◌^◌, ◌&&◌, ◌||◌, ℕ, All, List, Bool, true, false, [], not, Some, is_some}
+use Rattle.std.specs.Prelude.{◌≡◌, ◌-◌, ◌<◌, ◌≤◌, ◌^◌, ◌&&◌, ◌||◌, ℕ, All, List, Bool, true, false, [], not, Option, Some, is_some}
 use Rattle.core_views.specs.declared.cache.Translation.{Translation}
 use Rattle.core_views.specs.declared.topics.Hold.TheVariants.{Exclusive}
+use Rattle.core_views.specs.declared.topics.HostRow.{HostRow}
 use Rattle.core_views.specs.declared.topics.Invalidated.{Invalidated}
+use Rattle.core_views.specs.declared.topics.PageRun.{PageRun}
 use Rattle.core_views.specs.declared.topics.Stay.{Stay}
 use Rattle.core_views.specs.declared.topics.Stay.TheVariants.{Guest, Outside}
 use Rattle.core_views.specs.declared.topics.Topics.{Topics}
@@ -12,7 +14,8 @@ use Rattle.core_views.specs.Held.{Held}
 use Rattle.core_views.specs.Slots.{has_host_page}
 use Rattle.spte_words.specs.declared.spte_kind.SpteKind.TheVariants.{Leaf}
 use Rattle.spte_words.specs.Entries.{kind_of}
-use Rattle.part_steps.specs.InvalidationRange.{IsOnRun, gfn_behind, page_aimed, page_looked}
+use Rattle.part_steps.specs.InvalidationRange.{gfn_behind, page_looked, run_aimed}
+use Rattle.part_steps.specs.PageRuns.{IsOnRun, is_single}
 use Rattle.part_steps.specs.SweepTopics.{swept_to}
 use Rattle.mmu_core.specs.invariant.AllOver.{AllOver}
 use Rattle.mmu_core.specs.invariant.CachedPart.{AgreePart}
@@ -32,10 +35,10 @@ RangePart n start end_ topics =
     (i gfn : ℕ) → i < n → (topics i).invalidations.opened ≡ true → IsIn (topics i).invalidations.own gfn
     → (start ≤ gfn) × (gfn < end_) × (gfn < 2 ^ 36)
 
--- Under the lock alone, a search has passed no slot with the host page that the actor may change, if it may change one, but the one that it has found.
+-- Under the lock alone, a search has passed no slot with the host page that the actor may change, if it may change just one, but the one that it has found.
 abbrev pub PassedPart : (ℕ → ℕ) → Topics → Type 0
 PassedPart pool t =
-    t.hold ≡ Exclusive → t.stay ≡ Outside → is_some (page_aimed t) ≡ true → (set : ℕ) → t.search.set ≡ Some set → (id : ℕ) (slot : SlotOf)
+    t.hold ≡ Exclusive → t.stay ≡ Outside → is_single (run_aimed t) ≡ true → (set : ℕ) → t.search.set ≡ Some set → (id : ℕ) (slot : SlotOf)
     → IsLiveIn pool set id slot → id < t.search.id → has_host_page (page_looked t.host) slot ≡ true → (t.search.whole ≡ true) × (slot ≡ t.search.slot)
 
 -- A slot in this set gives the host page this guest frame.
@@ -46,10 +49,27 @@ pub record SlotGives (pool : ℕ → ℕ) (set page gfn : ℕ) : Type 0 where
   pub has : has_host_page page slot ≡ true
   pub is : gfn ≡ gfn_behind page slot
 
--- The invalidation is of the guest frames that the slots give to the host pages of its run, and of no others.
+-- A slot gives the guest frame to a host page of the run.
+abbrev pub GivesOne : (ℕ → ℕ) → ℕ → Option PageRun → ℕ → Type 0
+GivesOne pool set pages gfn = (page : ℕ) × IsOnRun page pages × SlotGives pool set page gfn
+
+-- The invalidation is of the guest frames that the slots give to the host pages of its run, and of none before the first of these or after the last.
 pub record IsOfPages (pool : ℕ → ℕ) (set : ℕ) (own_ : Invalidated) : Type 0 where
   pub covers : (page gfn : ℕ) → IsOnRun page own_.pages → SlotGives pool set page gfn → IsIn own_ gfn
-  pub only : (gfn : ℕ) → IsIn own_ gfn → (page : ℕ) × IsOnRun page own_.pages × SlotGives pool set page gfn
+  pub first : own_.start < own_.end → GivesOne pool set own_.pages own_.start
+  pub last : own_.start < own_.end → GivesOne pool set own_.pages (own_.end - 1)
+
+-- Under the lock alone, a search for a run of several pages has collected so the guest frames of the slots that it has passed.
+pub record HasCollected (pool : ℕ → ℕ) (set id : ℕ) (run : PageRun) (row : HostRow) : Type 0 where
+  pub covers : (i page : ℕ) (slot : SlotOf) → IsLiveIn pool set i slot → i < id → IsOnRun page (Some run) → has_host_page page slot ≡ true
+      → (row.start ≤ gfn_behind page slot) × (gfn_behind page slot < row.end)
+  pub first : row.start < row.end → GivesOne pool set (Some run) row.start
+  pub last : 1 ≤ row.end → GivesOne pool set (Some run) (row.end - 1)
+
+abbrev pub CollectedPart : (ℕ → ℕ) → Topics → Type 0
+CollectedPart pool t =
+    t.hold ≡ Exclusive → t.stay ≡ Outside → (run : PageRun) → run_aimed t ≡ Some run → 2 ≤ run.level → (set : ℕ) → t.search.set ≡ Some set
+    → HasCollected pool set t.search.id run t.row
 
 -- So is each open one of host pages, of the published slots.
 abbrev pub ScopePart : ℕ → (ℕ → ℕ) → ℕ → (ℕ → Topics) → Type 0

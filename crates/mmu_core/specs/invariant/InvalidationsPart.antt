@@ -4,6 +4,7 @@ use Rattle.core_views.specs.declared.place.EndPlace.TheVariants as ends
 use Rattle.core_views.specs.declared.place.EndPlace.{EndPlace}
 use Rattle.core_views.specs.declared.place.SlotChangePlace.TheVariants as change
 use Rattle.core_views.specs.declared.place.HostPlace.TheVariants as host
+use Rattle.core_views.specs.declared.place.HostRunPlace.TheVariants as run
 use Rattle.core_views.specs.declared.place.Place.{Place}
 use Rattle.core_views.specs.declared.place.Place.TheVariants as place
 use Rattle.core_views.specs.declared.sizes.Sizes.{Sizes}
@@ -87,6 +88,7 @@ has_raised (place.SlotChange change.Give) = true
 has_raised (place.Host (host.End p)) = is_raised_at p
 has_raised (place.Host host.Watch) = true
 has_raised (place.Host host.Free) = true
+has_raised (place.HostRun (run.End p)) = is_raised_at p
 has_raised _ = false
 
 -- how many lines of a hand may have raised it: those that are answered, and the one under way that has

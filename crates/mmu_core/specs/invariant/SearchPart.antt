@@ -10,7 +10,7 @@ use Rattle.core_views.specs.declared.topics.Topics.{Topics}
 use Rattle.core_views.specs.declared.trace.Slot.{Slot as SlotOf}
 use Rattle.core_views.specs.Slots.{contains}
 use Rattle.spte_words.specs.Flags.{flags_logged}
-use Rattle.part_steps.specs.InvalidationRange.{IsOnRun}
+use Rattle.part_steps.specs.PageRuns.{IsOnRun}
 use Rattle.part_steps.specs.SlotWords.{live_at, slot_at, slot_index}
 use Rattle.mmu_core.specs.invariant.HostWordsPart.{IsHostWord, IsStill}
 use Rattle.mmu_core.specs.invariant.InvalidatedPart.{IsIn}

@@ -5,16 +5,16 @@ use Rattle.core_views.specs.Held.{Held}
 use Rattle.core_views.specs.Sizes.{actors_of}
 use Rattle.spte_words.specs.declared.area.Area.TheVariants as area
 use Rattle.mmu_core.specs.machine.View.{View}
-pub use Rattle.part_steps.specs.PartBounds.{CountersPart}
+pub use Rattle.part_steps.specs.PartBounds.{CountersPart, IsLowRow}
 pub use Rattle.mmu_core.specs.invariant.AllOver.{AllOver, LeafIsFor}
 pub use Rattle.mmu_core.specs.invariant.FramesPart.{CopiedPart, FrameUse, FramesPart, LookedFramesPart}
 pub use Rattle.mmu_core.specs.invariant.HostWordsPart.{HostWordsPart, IsHostWord, OwnLooksPart}
 pub use Rattle.mmu_core.specs.invariant.HeldPart.{HeldPart, HoldsOld, OldSetsPart, OwedPart, PathPart, SetsPart}
 pub use Rattle.mmu_core.specs.invariant.InvalidationsPart.{CheckedPart, CountPart, KnownRangePart, LoadedPart}
-pub use Rattle.mmu_core.specs.invariant.InvalidatedPart.{PassedPart, RangePart, ScopePart, SweptPart, ZappedPart}
+pub use Rattle.mmu_core.specs.invariant.InvalidatedPart.{CollectedPart, PassedPart, RangePart, ScopePart, SweptPart, ZappedPart}
 pub use Rattle.mmu_core.specs.invariant.LockPart.{LockPart, SawWriter}
 pub use Rattle.mmu_core.specs.invariant.PoolPart.{FilledPart, IsFilled, UsePart, is_retired}
-pub use Rattle.mmu_core.specs.invariant.RunsPart.{RunsPart, SlotScopePart, SmallChangesPart}
+pub use Rattle.mmu_core.specs.invariant.RunsPart.{ChangesPart, OwnPagesPart, OwnRowsPart, RunsPart, SlotScopePart}
 pub use Rattle.mmu_core.specs.invariant.SearchPart.{HeldSlotsPart, IsInvalidating, LookPart, SearchPart}
 pub use Rattle.mmu_core.specs.invariant.StatesPart.{StatesPart}
 pub use Rattle.mmu_core.specs.invariant.TreePart.{Position, TreePart, Use, stands}
@@ -55,7 +55,11 @@ pub record TopicsInvariantOf (z : Sizes) (lock root slots seq count start end_ :
   pub swept : SweptPart (actors_of z) up spot pool root (λ i. (hand i).topics)
   pub zapped : ZappedPart (actors_of z) up spot pool root (λ i. (hand i).topics)
   pub runs : RunsPart z (actors_of z) host (λ i. (hand i).topics)
-  pub small_changes : SmallChangesPart (actors_of z) host (λ i. (hand i).topics)
+  pub own_pages : OwnPagesPart z (actors_of z) host (λ i. (hand i).topics)
+  pub changes : ChangesPart (actors_of z) host (λ i. (hand i).topics)
+  pub own_rows : OwnRowsPart z (actors_of z) host (λ i. (hand i).topics)
+  pub collected : (i : ℕ) → i < actors_of z → CollectedPart pool (hand i).topics
+  pub low_rows : (i : ℕ) → i < actors_of z → IsLowRow (hand i).topics.row
   pub few_ended : seq < 2 ^ 40
   pub counters : (i : ℕ) → i < actors_of z → CountersPart z (hand i).topics
 

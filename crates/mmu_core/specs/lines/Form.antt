@@ -7,9 +7,10 @@ use Rattle.core_views.specs.declared.place.Place.{Place}
 use Rattle.core_views.specs.declared.sizes.Sizes.{Sizes}
 use Rattle.core_views.specs.declared.topics.Topics.{Topics}
 use Rattle.core_views.specs.declared.trace.Command.{Command}
-use Rattle.core_views.specs.declared.trace.Command.TheVariants.{Access, ChangeHost}
+use Rattle.core_views.specs.declared.trace.Command.TheVariants.{Access, ChangeHost, ChangeRun, Split}
 use Rattle.core_views.specs.declared.trace.HostChange.{HostChange}
 use Rattle.core_views.specs.declared.trace.Op.{Op}
+use Rattle.core_views.specs.declared.trace.RunChange.{RunChange}
 use Rattle.core_views.specs.Held.{Held, State}
 use Rattle.core_views.specs.SlotSets.{MemorySlots}
 use Rattle.part_steps.specs.declared.part_step.PartStep.{PartStep}
@@ -64,7 +65,7 @@ plain_form p = record {
   owns_frame = false;
 }
 
--- what is said of an access, or of a change of a host page, and of another command
+-- what is said of an access, of a change of a host page, or of a run of them, or of a split, and of another command
 abbrev pub of_access {ℓ} : {A : Type ℓ} → Command → (ℕ → ℕ → Op → A) → A → A
 of_access (Access gfn word op) is other = is gfn word op
 of_access _ is other = other
@@ -72,3 +73,11 @@ of_access _ is other = other
 abbrev pub of_change {ℓ} : {A : Type ℓ} → Command → (ℕ → HostChange → A) → A → A
 of_change (ChangeHost page change) is other = is page change
 of_change _ is other = other
+
+abbrev pub of_run {ℓ} : {A : Type ℓ} → Command → (ℕ → RunChange → A) → A → A
+of_run (ChangeRun page change) is other = is page change
+of_run _ is other = other
+
+abbrev pub of_split {ℓ} : {A : Type ℓ} → Command → (ℕ → A) → A → A
+of_split (Split gfn) is other = is gfn
+of_split _ is other = other

@@ -7,10 +7,12 @@ use Rattle.core_views.specs.declared.event.EventKind.{EventKind}
 use Rattle.core_views.specs.declared.place.AccessPlace.TheVariants.{Enter}
 use Rattle.core_views.specs.declared.place.Place.{Place}
 use Rattle.core_views.specs.declared.place.Place.TheVariants as place
+use Rattle.core_views.specs.declared.place.SplitPlace.TheVariants as split
 use Rattle.core_views.specs.declared.sizes.Sizes.{Sizes}
 use Rattle.core_views.specs.declared.topics.Topics.{Topics}
 use Rattle.core_views.specs.declared.trace.Command.{Command}
-use Rattle.core_views.specs.declared.trace.Command.TheVariants.{Access, ChangeHost, ClearLog, GetLog}
+use Rattle.core_views.specs.declared.place.HostRunPlace.TheVariants as run_place
+use Rattle.core_views.specs.declared.trace.Command.TheVariants.{Access, ChangeHost, ChangeRun, ClearLog, GetLog, Split}
 use Rattle.core_views.specs.Held.{Held, State}
 use Rattle.core_views.specs.HostChanges.{moves_page}
 use Rattle.core_views.specs.LogCommands.{read_refusal, takes_out}
@@ -21,10 +23,12 @@ use Rattle.part_steps.specs.PartSteps.{IsAtRest, has_line}
 use Rattle.mmu_core.specs.declared.outcome.Outcome.{Outcome}
 use Rattle.mmu_core.specs.forms.access.AccessForm.{access_form}
 use Rattle.mmu_core.specs.forms.host.HostForm.{host_form}
+use Rattle.mmu_core.specs.forms.host_run.HostRunForm.{host_run_form}
 use Rattle.mmu_core.specs.forms.log.LogForm.{log_form}
 use Rattle.mmu_core.specs.forms.log.LogSteps.{log_first}
 use Rattle.mmu_core.specs.forms.slot_change.SlotChangeForm.{slot_change_form}
 use Rattle.mmu_core.specs.forms.slot_change.SlotChangeSteps.{slot_change_first}
+use Rattle.mmu_core.specs.forms.split.SplitForm.{split_form}
 use Rattle.mmu_core.specs.lines.Form.{Form, plain_form}
 
 -- ---- the order of its steps
@@ -33,9 +37,11 @@ use Rattle.mmu_core.specs.lines.Form.{Form, plain_form}
 abbrev pub first_place : Sizes → MemorySlots → Command → Place
 first_place z slots (Access gfn word op) = place.Access (Enter false)
 first_place z slots (ChangeHost page change) = place.Host (host.Look (moves_page (ChangeHost page change)))
+first_place z slots (ChangeRun page change) = place.HostRun run_place.Look
 first_place z slots (GetLog id) = place.Log (log_first (read_refusal (GetLog id) slots) (takes_out z.mode (GetLog id)))
 first_place z slots (ClearLog id first count words) =
     place.Log (log_first (read_refusal (ClearLog id first count words) slots) (takes_out z.mode (ClearLog id first count words)))
+first_place z slots (Split gfn) = place.Split split.Begin
 first_place z slots command = place.SlotChange (slot_change_first (change_at_once z command slots))
 
 -- between lines
@@ -52,7 +58,9 @@ form_at place.Between = between_form
 form_at (place.Access p) = access_form p
 form_at (place.SlotChange p) = slot_change_form p
 form_at (place.Host p) = host_form p
+form_at (place.HostRun p) = host_run_form p
 form_at (place.Log p) = log_form p
+form_at (place.Split p) = split_form p
 
 -- the step of a part at each place; none where the guest touches
 abbrev pub part_at : Place → Command → Held → Option PartStep

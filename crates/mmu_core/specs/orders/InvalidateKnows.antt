@@ -1,5 +1,5 @@
 -- What a line knows that begins or ends an invalidation, at each of its places, from what its actor holds alone.
-use Rattle.std.specs.Prelude.{◌≡◌, ◌<◌, ◌≤◌, ◌+◌, ◌^◌, ℕ, Bool, true, false, ◌||◌, nat_le, nat_lt, not}
+use Rattle.std.specs.Prelude.{◌≡◌, ◌<◌, ◌≤◌, ◌+◌, ◌^◌, ℕ, Bool, true, false, ◌||◌, nat_le, nat_lt, not, Some}
 use Rattle.core_views.specs.declared.place.BeginPlace.{BeginPlace}
 use Rattle.core_views.specs.declared.place.BeginPlace.TheVariants as begins
 use Rattle.core_views.specs.declared.place.EndPlace.{EndPlace}
@@ -9,6 +9,7 @@ use Rattle.core_views.specs.declared.topics.Checked.TheVariants as checked
 use Rattle.core_views.specs.declared.topics.Hold.TheVariants.{Exclusive}
 use Rattle.core_views.specs.declared.topics.Invalidated.{Invalidated}
 use Rattle.core_views.specs.declared.topics.Invalidations.{Invalidations}
+use Rattle.core_views.specs.declared.topics.PageRun.{PageRun}
 use Rattle.core_views.specs.declared.topics.Stay.TheVariants.{Outside}
 use Rattle.core_views.specs.declared.trace.Slot.{Slot}
 use Rattle.core_views.specs.declared.topics.Topics.{Topics}
@@ -16,8 +17,9 @@ use Rattle.part_steps.specs.declared.invalidations.Target.{Target}
 use Rattle.part_steps.specs.declared.invalidations.Target.TheVariants as aim
 use Rattle.part_steps.specs.InvalidationHoldings.{has_counted, has_widened}
 use Rattle.part_steps.specs.SweepHoldings.{IsSwept}
-use Rattle.part_steps.specs.InvalidationRange.{has_searched, invalidated_by, is_within_range, page_of_target, run_or_none, target_end, target_start}
+use Rattle.part_steps.specs.InvalidationRange.{has_searched, invalidated_by, is_within_range, run_of_target, target_end, target_start}
 use Rattle.part_steps.specs.PartHoldings.{HoldsSet}
+use Rattle.spte_words.specs.Entries.{level_span}
 use Rattle.mmu_core.specs.orders.SweepKnows.{IsAtEntry, IsAtLeaf}
 use Rattle.mmu_core.specs.orders.SweepSteps.{range_of}
 use Rattle.part_steps.specs.PartSteps.{IsFree}
@@ -40,9 +42,10 @@ pub record IsSweeping (opened : Bool) (t : Topics) : Type 0 where
   pub with_lock : IsAloneWith opened t
   pub unasked : t.flush ≡ no_flush
 
--- The frames that an invalidation is of are the target's: those of the slot, or one at most, all below 2 ^ 36.
+-- The frames that an invalidation is of are the target's: those of the slot, or those of a run, one at most where this is one page, all below 2 ^ 36.
 abbrev pub FramesAre : Target → Invalidated → Type 0
 FramesAre (aim.Page page) own_ = (own_.end ≤ own_.start + 1) × (own_.end ≤ 2 ^ 36)
+FramesAre (aim.Run run) own_ = own_.end ≤ 2 ^ 36
 FramesAre (aim.Slot slot) own_ = (own_.start ≡ slot.base) × (own_.end ≡ slot.base + slot.pages) × (own_.end ≤ 2 ^ 36)
 
 -- It searches the slots, before it opens its own invalidation, and holds no table.
@@ -63,7 +66,7 @@ starts_low first last n = not (nat_lt first last) || nat_le n.start first
 -- Its own invalidation is of the target's frames, which are few enough, and it hasn't raised the sequence number for it yet, nor loaded a word of the
 -- invalidations since.
 pub record IsOfOwn (target : Target) (n : Invalidations) : Type 0 where
-  pub of_pages : n.own.pages ≡ run_or_none (page_of_target target)
+  pub of_pages : n.own.pages ≡ run_of_target target
   pub few : FramesAre target n.own
   pub unraised : n.raised ≡ false
   pub unchecked : n.checked ≡ checked.Nothing
@@ -83,10 +86,10 @@ BeginKnows begins.RangeEnd z target t = HasSearched target t × (t.invalidations
 BeginKnows begins.SetStart z target t = HasSearched target t × (has_counted t.invalidations.checked t.invalidations.count ≡ true)
 BeginKnows begins.SetEnd z target t =
     HasSearched target t × (has_widened t.invalidations.checked t.invalidations.count ≡ true)
-    × (t.invalidations.own.pages ≡ run_or_none (page_of_target target)) × (t.invalidations.own.start ≡ target_start target t.search)
-    × (starts_low (target_start target t.search) (target_end target t.search) t.invalidations ≡ true)
+    × (t.invalidations.own.pages ≡ run_of_target target) × (t.invalidations.own.start ≡ target_start target t.search t.row)
+    × (starts_low (target_start target t.search t.row) (target_end target t.search t.row) t.invalidations ≡ true)
 BeginKnows begins.SetCount z target t =
-    HasSearched target t × (t.invalidations.checked ≡ checked.Range) × (t.invalidations.own ≡ invalidated_by target t.search)
+    HasSearched target t × (t.invalidations.checked ≡ checked.Range) × (t.invalidations.own ≡ invalidated_by target t.search t.row)
     × (is_within_range t.invalidations.own t.invalidations ≡ true)
 BeginKnows (begins.Walk rooted) z target t =
     Sweeps target t × (rooted ≡ true → IsAtEntry true (range_of t.invalidations.own) t.walk)
@@ -105,11 +108,17 @@ pub record IsOpen (t : Topics) : Type 0 where
   pub opened : t.invalidations.opened ≡ true
   pub unraised : t.invalidations.raised ≡ false
 
+-- Where its own invalidation is of a run of several host pages, all of them are changed.
+abbrev pub HasChangedAll : Topics → Type 0
+HasChangedAll t = (run : PageRun) → t.invalidations.own.pages ≡ Some run → 2 ≤ run.level → run.changed ≡ level_span run.level
+
 -- what it knows at each place of the end, at which it holds no table and no slot set
 abbrev pub EndKnows : EndPlace → Topics → Type 0
-EndKnows ends.Exclude t = IsOpen t
-EndKnows ends.Seq t = IsAloneWith true t × (t.invalidations.checked ≡ checked.Nothing) × (t.invalidations.raised ≡ false) × HoldsLock Exclusive t
-EndKnows ends.SetSeq t = IsAloneWith true t × (t.invalidations.checked ≡ checked.Seq) × (t.invalidations.raised ≡ false) × HoldsLock Exclusive t
+EndKnows ends.Exclude t = IsOpen t × HasChangedAll t
+EndKnows ends.Seq t =
+    IsAloneWith true t × (t.invalidations.checked ≡ checked.Nothing) × (t.invalidations.raised ≡ false) × HoldsLock Exclusive t × HasChangedAll t
+EndKnows ends.SetSeq t =
+    IsAloneWith true t × (t.invalidations.checked ≡ checked.Seq) × (t.invalidations.raised ≡ false) × HoldsLock Exclusive t × HasChangedAll t
 EndKnows ends.Count t = IsAloneWith true t × (t.invalidations.raised ≡ true) × HoldsLock Exclusive t
 EndKnows ends.SetCount t = IsAloneWith true t × (t.invalidations.checked ≡ checked.Count) × (t.invalidations.raised ≡ true) × HoldsLock Exclusive t
 EndKnows ends.Release t = IsAloneWith false t × (t.invalidations.checked ≡ checked.Nothing) × HoldsLock Exclusive t

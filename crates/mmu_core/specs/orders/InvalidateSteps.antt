@@ -1,4 +1,4 @@
--- The order of steps that begin an invalidation of guest frames, those that slots give to a host page or those of a slot, and of those that end it (kvm_main.c,
+-- The order of steps that begin an invalidation of guest frames, those that slots give to host pages or those of a slot, and of those that end it (kvm_main.c,
 -- kvm_mmu_invalidate_begin and kvm_mmu_invalidate_end; tdp_mmu.c, kvm_tdp_mmu_unmap_gfn_range; vcpu-requests.rst): under the lock alone the range of open
 -- invalidations is widened to the frames, one more is counted, their leaves are zapped, and each virtual processor is asked for a flush and awaited; and later,
 -- under the lock alone again, the sequence number is raised, and one less is open.
@@ -35,8 +35,8 @@ begin_part (begins.Find begun) target t = if begun then part.Slot else part.Slot
 begin_part begins.Count target t = part.Count
 begin_part begins.RangeStart target t = part.RangeStart
 begin_part begins.RangeEnd target t = part.RangeEnd
-begin_part begins.SetStart target t = part.SetStart (target_start target t.search) (range_start target t)
-begin_part begins.SetEnd target t = part.SetEnd (target_end target t.search) (range_end target t)
+begin_part begins.SetStart target t = part.SetStart (target_start target t.search t.row) (range_start target t)
+begin_part begins.SetEnd target t = part.SetEnd (target_end target t.search t.row) (range_end target t)
 begin_part begins.SetCount target t = part.SetCount (t.invalidations.count + 1)
 begin_part (begins.Walk rooted) target t = if rooted then part.Sweep (swept_to true t.invalidations.own.start t.walk) else part.Root
 begin_part begins.Zap target t = part.Zap (swept_to true t.invalidations.own.start t.walk)

@@ -60,7 +60,7 @@ use Rattle.mmu_laws.proofs.alone.PartAlone.{part_goes_alone, seen_on}
 use Rattle.mmu_laws.proofs.forms.access.StayNearer.{Nearer}
 use Rattle.mmu_laws.proofs.turns.TurnsNearer.{no_miss, none_of, place_nearer}
 use Rattle.mmu_laws.proofs.forms.access.AccessAlone.{FormNext, KnowsAfter, access_form, simple_form}
-use Rattle.mmu_core.proofs.held.OwnPages.{own_words}
+use Rattle.mmu_core.proofs.held.NextSeen.{sees_own}
 
 -- ---- what an access knows and never does alone
 
@@ -181,7 +181,7 @@ module _ (z : Sizes) (w : World Held) (a : ℕ) (sound : IsSound z w) (others : 
     nearer : IsUnderWay p → IsCommandFor z h.state.actor command → PartRests h → RetiresPart p h.topics → SlotFits p command h
         → Nearer o command h.state.sizes (topics_at p command h words) (steps_left p command h.state.sizes h.topics)
     nearer begun may rests left fits = place_nearer p command z h words begun may rests R K left fits
-        (own_words z (view z w) a sound.topics there (sound.holds.lines a there).sizes (sound.holds.lines a there).index) no_delay
+        (sees_own z (view z w) a sound.topics there (sound.holds.lines a there).sizes (sound.holds.lines a there).index) no_delay
 
   -- ---- each line
 

@@ -16,7 +16,7 @@ use Rattle.core_views.specs.declared.event.EventKind.TheVariants.{LookedAtHost, 
 use Rattle.core_views.specs.declared.sizes.Sizes.{Sizes}
 use Rattle.core_views.specs.declared.memory_slot.MemorySlot.{MemorySlot}
 use Rattle.core_views.specs.declared.trace.Command.{Command}
-use Rattle.core_views.specs.declared.trace.Command.TheVariants.{Access, ChangeHost, ChangeRun, ClearLog, GetLog, Migrate, SetLog}
+use Rattle.core_views.specs.declared.trace.Command.TheVariants.{Access, ChangeHost, ChangeRun, ClearLog, GetLog, Migrate, SetLog, Split}
 use Rattle.core_views.specs.declared.trace.Slot.{Slot}
 use Rattle.core_views.specs.Actors.{is_same}
 use Rattle.core_views.specs.Events.{after, after_all, facts_after, under_after}
@@ -88,6 +88,7 @@ changing (ChangeHost page change_) slots change is = absurd (cc is)
 changing (ChangeRun page change_) slots change is = absurd (cc is)
 changing (GetLog id) slots change is = absurd (cc is)
 changing (Migrate call) slots change is = absurd (cc is)
+changing (Split gfn) slots change is = absurd (cc is)
 changing (ClearLog id first count words) slots change is = absurd (cc is)
 changing _ slots change is = refl
 

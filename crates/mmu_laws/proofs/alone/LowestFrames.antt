@@ -7,19 +7,21 @@ use Rattle.core_views.specs.declared.answer.Answer.TheVariants.{Refused}
 use Rattle.core_views.specs.declared.answer.Refusal.TheVariants.{NoFrame}
 use Rattle.core_views.specs.declared.event.Event.{Event}
 use Rattle.core_views.specs.declared.event.EventKind.{EventKind}
-use Rattle.core_views.specs.declared.event.EventKind.TheVariants.{Answered, Exited, HostChanged}
+use Rattle.core_views.specs.declared.event.EventKind.TheVariants.{Answered, Exited, HostChanged, LookedAtHost}
 use Rattle.core_views.specs.declared.host.HostEntry.{HostEntry}
 use Rattle.core_views.specs.declared.kind.Kind.{Kind}
 use Rattle.core_views.specs.declared.place.HostPlace.TheVariants as host
+use Rattle.core_views.specs.declared.place.HostRunPlace.TheVariants as host_run
 use Rattle.core_views.specs.declared.place.Place.{Place}
 use Rattle.core_views.specs.declared.place.Place.TheVariants as place
 use Rattle.core_views.specs.declared.sizes.Sizes.{Sizes}
 use Rattle.core_views.specs.declared.topics.OwnedFrame.{OwnedFrame}
 use Rattle.core_views.specs.declared.trace.Command.{Command}
-use Rattle.core_views.specs.declared.trace.Command.TheVariants.{ChangeHost}
+use Rattle.core_views.specs.declared.trace.Command.TheVariants.{ChangeHost, ChangeRun}
 use Rattle.core_views.specs.declared.trace.HostChange.{HostChange}
 use Rattle.core_views.specs.declared.trace.HostChange.TheVariants.{Move}
 use Rattle.core_views.specs.declared.trace.Line.{Line}
+use Rattle.core_views.specs.declared.trace.RunChange.{RunChange}
 use Rattle.core_views.specs.Alone.{TakeLowest, TakesLowest}
 use Rattle.core_views.specs.Events.{after_all}
 use Rattle.core_views.specs.Flat.{Facts, Flat, first_flat}
@@ -68,8 +70,9 @@ use Rattle.mmu_core.proofs.pages.Uses.{told_so}
 use Rattle.mmu_core.proofs.words.HostStays.{moved_frame}
 use Rattle.mmu_laws.specs.flat.FlatInvariant.{FlatInvariant, UnderIs}
 use Rattle.mmu_laws.proofs.alone.AloneRuns.{steps_alone}
-use Rattle.mmu_laws.proofs.alone.NoMoves.{first_moves_not, moves_at, no_moves_take, tells_no_move, whole_no_move}
+use Rattle.mmu_laws.proofs.alone.NoMoves.{first_moves_not, moves_at, no_moves_take, refused_no_move, tells_no_move, whole_no_move}
 use Rattle.mmu_laws.proofs.flat.EveryHistory.{after_append, every_flat}
+use Rattle.mmu_laws.proofs.forms.host_run.RunEvents.{run_tells_so}
 use Rattle.mmu_laws.proofs.flat.Told.{facts_behind, told, told_facts}
 
 -- ---- the frames of a sound world
@@ -192,6 +195,15 @@ module _ (z : Sizes) (u : World Held) (s : Step Kind) (f : Flat) (L : LineAlone 
   change_takes true page entry takes = (takes, tt)
   change_takes false page entry takes = tt
 
+  -- A line that sets a run moves no page.
+  run_takes : (page : ℕ) (change : RunChange) → (f.under actor).line.command ≡ ChangeRun page change
+      → TakeLowest z f (told actor (kinds_at (place.HostRun host_run.Change) (ChangeRun page change)))
+  run_takes page change is =
+      run_tells_so (λ kinds. TakeLowest z f (told actor (kinds ++ []))) tt (λ other. (tt, tt))
+      (λ other refusal no_frame.
+      no_moves_take z f actor (LookedAtHost other ∷ Exited (Refused refusal) ∷ []) (tt, (refused_no_move refusal no_frame, tt))) host_run.Change
+      (λ at other entry. (subst (λ c. TakesLowest z f.facts c (HostChanged other entry)) (sym is) tt, tt)) page change h v
+
   takes_by : (stood : Place) (command : Command) → Stands stood command → TakeLowest z f (told actor (kinds_at stood command))
   takes_by (place.Host (host.Claim begun)) (ChangeHost page change) S =
       claim_takes (claim_next Frames begun h.state.sizes h.topics.frames.claim v) (line_at (place.Host (host.Claim begun)) h) S.tells S.comes
@@ -200,6 +212,9 @@ module _ (z : Sizes) (u : World Held) (s : Step Kind) (f : Flat) (L : LineAlone 
       change_takes (v == word_looked h.topics.host) page (entry_of (word_put change h.topics))
       (subst (λ c. TakesLowest z f.facts c (HostChanged page (entry_of (word_put change h.topics))))
       (sym (ap (λ (l : Line). l.command) under.0 ∙ S.command_is)) (changed_takes page change S.knows S.form))
+  takes_by (place.HostRun host_run.Change) (ChangeRun page change) S =
+      let under = subst (λ c. UnderIs z (word_in z u area.Pool) (place.HostRun host_run.Change) c h (f.under actor)) S.command_is S.under in
+      run_takes page change (ap (λ (l : Line). l.command) under.0 ∙ S.command_is)
   takes_by place.Between command S =
       let p : Place = place_at place.Between h in
       no_moves_take z f actor (kinds_at place.Between command)

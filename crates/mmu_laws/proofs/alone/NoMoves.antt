@@ -5,6 +5,7 @@ use Rattle.std.proofs.Common.{◌≡◌, ◌≢◌, List, [], ◌∷◌, ◌++�
 use Rattle.std.specs.Prelude.{Bool, true, false, ◌==◌, if◌then◌else◌}
 use Rattle.core_views.specs.declared.actor.Actor.{Actor}
 use Rattle.core_views.specs.declared.answer.Answer.TheVariants.{Refused}
+use Rattle.core_views.specs.declared.answer.Refusal.{Refusal}
 use Rattle.core_views.specs.declared.answer.Refusal.TheVariants.{NoFrame, IsHuge}
 use Rattle.core_views.specs.declared.event.EventKind.{EventKind}
 use Rattle.core_views.specs.declared.event.EventKind.TheVariants.{BroughtIn, Exited, HostChanged, LookedAtHost, LookedAtSlots}
@@ -15,13 +16,16 @@ use Rattle.core_views.specs.declared.place.FaultEnd.{FaultEnd}
 use Rattle.core_views.specs.declared.place.FaultEnd.TheVariants as end_of
 use Rattle.core_views.specs.declared.place.FaultPlace.TheVariants as fault
 use Rattle.core_views.specs.declared.place.HostPlace.TheVariants as host
+use Rattle.core_views.specs.declared.place.HostRunPlace.{HostRunPlace}
+use Rattle.core_views.specs.declared.place.HostRunPlace.TheVariants as run
 use Rattle.core_views.specs.declared.place.Place.{Place}
 use Rattle.core_views.specs.declared.place.Place.TheVariants as place
 use Rattle.core_views.specs.declared.sizes.Sizes.{Sizes}
 use Rattle.core_views.specs.declared.trace.Command.{Command}
-use Rattle.core_views.specs.declared.trace.Command.TheVariants.{Access, ChangeHost}
+use Rattle.core_views.specs.declared.trace.Command.TheVariants.{Access, ChangeHost, ChangeRun}
 use Rattle.core_views.specs.declared.trace.Line.{Line}
 use Rattle.core_views.specs.declared.trace.Op.{Op}
+use Rattle.core_views.specs.declared.trace.RunChange.{RunChange}
 use Rattle.core_views.specs.Alone.{TakeLowest, TakesLowest}
 use Rattle.core_views.specs.Events.{after}
 use Rattle.core_views.specs.Flat.{Facts, Flat}
@@ -37,8 +41,10 @@ use Rattle.mmu_core.specs.machine.Outcomes.{answering}
 use Rattle.mmu_core.specs.machine.Steps.{beginning}
 use Rattle.mmu_core.proofs.lines.EitherPlace.{either_place}
 use Rattle.mmu_core.proofs.lines.Forms.{place_tells}
-use Rattle.mmu_core.proofs.lines.SimplePlaces.{Told, Nothing, Arms, ArmsClean, Exit, Change, OfAccess, OfHost, OfLog}
+use Rattle.mmu_core.proofs.lines.SimplePlaces.{Told, Nothing, Arms, ArmsClean, Exit, Change, OfAccess, OfHost, OfHostRun, OfLog}
 use Rattle.mmu_laws.proofs.flat.Told.{told}
+use Rattle.mmu_laws.proofs.forms.host_run.RunEvents.{run_tells_so}
+use Rattle.mmu_core.proofs.forms.host_run.HostRunKept.{is_change}
 use Rattle.mmu_core.specs.forms.host.HostSteps.{after_look, maps_large}
 
 abbrev pub IsNoMove : EventKind → Type 0
@@ -87,12 +93,14 @@ whole_no_move stood line kinds o none =
 abbrev pub moves_at : Place → Command → Bool
 moves_at (place.Host (host.Claim begun)) (ChangeHost page change) = true
 moves_at (place.Host host.Change) (ChangeHost page change) = true
+moves_at (place.HostRun run.Change) (ChangeRun page change) = true
 moves_at _ _ = false
 
 -- No line begins there.
 pub first_moves_not : (z : Sizes) (slots : MemorySlots) (command : Command) → moves_at (first_place z slots command) command ≡ false
 first_moves_not z slots (Access gfn word op) = refl
 first_moves_not z slots (ChangeHost page change) = refl
+first_moves_not z slots (ChangeRun page change) = refl
 first_moves_not z slots (GetLog id) = refl
 first_moves_not z slots (ClearLog id first count words) = refl
 first_moves_not z slots _ = refl
@@ -116,6 +124,20 @@ access_no_move (access.Fault fault.Bring) h gfn word op v =
     either_place AreNoMoves (v == word_looked h.topics.host) (BroughtIn (page_looked h.topics.host) ∷ []) [] (tt, tt) tt
 access_no_move (access.Fault (fault.End e)) h gfn word op v = end_no_move e
 access_no_move _ h gfn word op v = tt
+
+pub refused_no_move : (refusal : Refusal) → refusal ≢ NoFrame → IsNoMove (Exited (Refused refusal))
+refused_no_move NoFrame other = absurd (other refl)
+refused_no_move _ other = tt
+
+run_no_move : (p : HostRunPlace) (page : ℕ) (change : RunChange) (h : Held) (v : ℕ) → moves_at (place.HostRun p) (ChangeRun page change) ≡ false
+    → AreNoMoves (tells_at (place.HostRun p) (ChangeRun page change) h v)
+run_no_move p page change h v other =
+    run_tells_so AreNoMoves tt (λ page. (tt, tt)) (λ page refusal no_frame. (tt, (refused_no_move refusal no_frame, tt))) p
+    (λ at. absurd (stands_not p at other)) page change h v
+  where
+    stands_not : (q : HostRunPlace) → is_change q ≡ true → moves_at (place.HostRun q) (ChangeRun page change) ≡ false → ⊥
+    stands_not run.Change at other = cc other
+    stands_not _ at other = cc at
 
 exit_no_move : (o : Outcome) → o ≢ Ends (Refused NoFrame) → AreNoMoves (exiting o)
 exit_no_move (Goes p) other = tt
@@ -143,3 +165,4 @@ tells_no_move p command h v = by p command (tells_at p command h v) (place_tells
               (Goes (place.Host (if moving then host.Claim false else host.Begin begins.Exclude))) (tt, tt) tt,
         ) tt
     by _ _ _ (OfHost q page change) other = tt
+    by _ _ _ (OfHostRun q page change) other = run_no_move q page change h v other

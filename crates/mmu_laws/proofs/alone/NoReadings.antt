@@ -23,8 +23,9 @@ use Rattle.mmu_core.specs.lines.Forms.{outcome_at, tells_at}
 use Rattle.mmu_core.specs.forms.host.HostSteps.{entry_of, host_outcome, host_tells, word_put, after_look}
 use Rattle.mmu_core.proofs.lines.EitherPlace.{either_place}
 use Rattle.mmu_core.proofs.lines.Forms.{place_tells}
-use Rattle.mmu_core.proofs.lines.SimplePlaces.{Told, Nothing, Arms, ArmsClean, Exit, Change, OfAccess, OfHost, OfLog}
+use Rattle.mmu_core.proofs.lines.SimplePlaces.{Told, Nothing, Arms, ArmsClean, Exit, Change, OfAccess, OfHost, OfHostRun, OfLog}
 use Rattle.mmu_laws.proofs.alone.ToldFlat.{AreNoReadings}
+use Rattle.mmu_laws.proofs.forms.host_run.RunEvents.{run_tells_so}
 
 exit_none : (o : Outcome) → AreNoReadings (exiting o)
 exit_none (Goes p) = tt
@@ -66,3 +67,5 @@ tells_none p command h v = by p command (tells_at p command h v) (place_tells p 
     by _ _ _ (OfAccess q gfn word op) other = access_none q h gfn word op v
     by _ c _ (OfLog q) other = absurd (cc other)
     by _ _ _ (OfHost q page change) other = host_none q page change h v
+    by _ _ _ (OfHostRun q page change) other =
+        run_tells_so AreNoReadings tt (λ page. (tt, tt)) (λ page refusal no_frame. (tt, (tt, tt))) q (λ at page entry. (tt, tt)) page change h v

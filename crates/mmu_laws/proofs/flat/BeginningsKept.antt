@@ -1,5 +1,6 @@
 -- Which hands are to begin a log for flat memory: after a step that publishes nothing only those that were so before it, and the manager's alone.
 use Rattle.core_views.specs.declared.answer.Refusal.{Refusal}
+use Rattle.core_views.specs.declared.place.SplitPlace.TheVariants as split
 use Rattle.core_views.specs.declared.place.LogPlace.TheVariants as log
 use Rattle.core_views.specs.LogCommands.{read_refusal, takes_out}
 use Rattle.mmu_core.specs.forms.log.LogSteps.{log_first}
@@ -11,12 +12,13 @@ use Rattle.core_views.specs.declared.answer.Refusal.{Refusal}
 use Rattle.core_views.specs.declared.event.EventKind.{EventKind}
 use Rattle.core_views.specs.declared.place.AccessPlace.TheVariants as access
 use Rattle.core_views.specs.declared.place.HostPlace.TheVariants as host_at
+use Rattle.core_views.specs.declared.place.HostRunPlace.TheVariants as run_at
 use Rattle.core_views.specs.declared.place.Place.{Place}
 use Rattle.core_views.specs.declared.place.Place.TheVariants as place
 use Rattle.core_views.specs.declared.place.SlotChangePlace.TheVariants as change
 use Rattle.core_views.specs.declared.sizes.Sizes.{Sizes}
 use Rattle.core_views.specs.declared.trace.Command.{Command}
-use Rattle.core_views.specs.declared.trace.Command.TheVariants.{Access, ChangeHost}
+use Rattle.core_views.specs.declared.trace.Command.TheVariants.{Access, ChangeHost, ChangeRun, Split}
 use Rattle.core_views.specs.declared.trace.Line.{Line}
 use Rattle.core_views.specs.Held.{Held}
 use Rattle.core_views.specs.LogCommands.{is_all_set}
@@ -53,9 +55,11 @@ is_first (place.Access (access.Enter false)) = true
 is_first (place.SlotChange (change.AtOnce refusal)) = true
 is_first (place.SlotChange (change.Claim false)) = true
 is_first (place.Host (host_at.Look moving)) = true
+is_first (place.HostRun run_at.Look) = true
 is_first (place.Log (log.AtOnce refusal)) = true
 is_first (place.Log log.Exclude) = true
 is_first (place.Log (log.Peek false)) = true
+is_first (place.Split split.Begin) = true
 is_first _ = false
 
 first_change : (r : Option (Option Refusal)) → is_first (place.SlotChange (slot_change_first r)) ≡ true
@@ -70,9 +74,11 @@ first_log None false = refl
 begins_first : (z : Sizes) (slots : MemorySlots) (command : Command) → is_first (first_place z slots command) ≡ true
 begins_first z slots (Access gfn word op) = refl
 begins_first z slots (ChangeHost page change) = refl
+begins_first z slots (ChangeRun page change) = refl
 begins_first z slots (GetLog id) = first_log (read_refusal (GetLog id) slots) (takes_out z.mode (GetLog id))
 begins_first z slots (ClearLog id first count words) =
     first_log (read_refusal (ClearLog id first count words) slots) (takes_out z.mode (ClearLog id first count words))
+begins_first z slots (Split gfn) = refl
 begins_first z slots command = first_change (change_at_once z command slots)
 
 -- No line begins at a place of a reading that has begun to read.
@@ -112,6 +118,10 @@ stands_at z v a line command p S later = by (v.hand a).state.place refl S.place_
     by (place.SlotChange q) e is own =
         record { at = e ∙ is; line_is = sym own; command_is = ap (λ (l : Line). l.command) (sym own) ∙ S.command_is }
     by (place.Host q) e is own =
+        record { at = e ∙ is; line_is = sym own; command_is = ap (λ (l : Line). l.command) (sym own) ∙ S.command_is }
+    by (place.HostRun q) e is own =
+        record { at = e ∙ is; line_is = sym own; command_is = ap (λ (l : Line). l.command) (sym own) ∙ S.command_is }
+    by (place.Split q) e is own =
         record { at = e ∙ is; line_is = sym own; command_is = ap (λ (l : Line). l.command) (sym own) ∙ S.command_is }
     by (place.Log q) e is own =
         record { at = e ∙ is; line_is = sym own; command_is = ap (λ (l : Line). l.command) (sym own) ∙ S.command_is }
@@ -204,6 +214,8 @@ beginning_manager z v j gfn I there B = by h.state.place refl (I.knows j there) 
     by (place.Access p) at K B = none_begins h.state.line.command h gfn (place.Access p) refl B
     by (place.Log p) at K B = none_begins h.state.line.command h gfn (place.Log p) refl B
     by (place.Host p) at K B = none_begins h.state.line.command h gfn (place.Host p) refl B
+    by (place.HostRun p) at K B = none_begins h.state.line.command h gfn (place.HostRun p) refl B
+    by (place.Split p) at K B = none_begins h.state.line.command h gfn (place.Split p) refl B
     by place.Between at K B = none_begins h.state.line.command h gfn place.Between refl B
 
 -- So it is the hand of this manager.

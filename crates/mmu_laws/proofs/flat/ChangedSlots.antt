@@ -9,7 +9,7 @@ use Rattle.core_views.specs.declared.event.EventKind.TheVariants.{Armed, SlotCha
 use Rattle.core_views.specs.declared.sizes.Sizes.{Sizes}
 use Rattle.core_views.specs.declared.memory_slot.MemorySlot.{MemorySlot}
 use Rattle.core_views.specs.declared.trace.Command.{Command}
-use Rattle.core_views.specs.declared.trace.Command.TheVariants.{Access, ChangeHost, ChangeRun, ClearLog, DeleteSlot, GetLog, Migrate, SetLog, SetSlot}
+use Rattle.core_views.specs.declared.trace.Command.TheVariants.{Access, ChangeHost, ChangeRun, ClearLog, DeleteSlot, GetLog, Migrate, SetLog, SetSlot, Split}
 use Rattle.core_views.specs.declared.trace.Slot.{Slot as SlotOf}
 use Rattle.core_views.specs.Events.{after}
 use Rattle.core_views.specs.Flat.{Flat}
@@ -102,6 +102,7 @@ change_of z (ChangeHost page change) slots changes works = absurd (cc changes)
 change_of z (ChangeRun page change) slots changes works = absurd (cc changes)
 change_of z (GetLog id) slots changes works = absurd (cc changes)
 change_of z (Migrate call) slots changes works = absurd (cc changes)
+change_of z (Split gfn) slots changes works = absurd (cc changes)
 change_of z (ClearLog id first count words) slots changes works = absurd (cc changes)
 
 -- ---- what the change leaves

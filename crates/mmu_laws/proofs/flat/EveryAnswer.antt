@@ -5,7 +5,7 @@ use Rattle.std.proofs.lemmas.Bool.Decides.{nat_tests}
 use Rattle.std.proofs.lemmas.List.{append-nil, take_all}
 use Rattle.std.proofs.lemmas.List.Elements.{All-head, All-tail, All-weaker}
 use Rattle.core_views.specs.declared.actor.Actor.{Actor}
-use Rattle.core_views.specs.declared.actor.Actor.TheVariants.{Vcpu, Manager, Host}
+use Rattle.core_views.specs.declared.actor.Actor.TheVariants.{Vcpu, Manager, Host, Worker}
 use Rattle.core_views.specs.declared.answer.AnsweredLine.{AnsweredLine}
 use Rattle.core_views.specs.declared.event.Event.{Event}
 use Rattle.core_views.specs.declared.kind.Kind.{Kind}
@@ -13,7 +13,7 @@ use Rattle.core_views.specs.declared.place.Place.{Place}
 use Rattle.core_views.specs.declared.place.Place.TheVariants as place
 use Rattle.core_views.specs.declared.sizes.Sizes.{Sizes}
 use Rattle.core_views.specs.declared.trace.Command.{Command}
-use Rattle.core_views.specs.declared.trace.Command.TheVariants.{Access, ChangeHost}
+use Rattle.core_views.specs.declared.trace.Command.TheVariants.{Access, ChangeHost, ChangeRun, Split}
 use Rattle.core_views.specs.declared.trace.Line.{Line}
 use Rattle.core_views.specs.Actors.{is_same}
 use Rattle.core_views.specs.Held.{Held, first_held}
@@ -196,6 +196,17 @@ host_present z n may =
       rw (not_less (z.vcpus + n) z.vcpus (omega arith), less (z.vcpus + n - z.vcpus) z.hosts (omega (arith, same, may))) (ap Host same),
     )
 
+-- So has each worker.
+worker_present : (z : Sizes) (n : ℕ) → n < z.workers → Present z (Worker n)
+worker_present z n may =
+    let i : ℕ = z.vcpus + z.hosts + 1 + n in
+    let same : i - z.vcpus - z.hosts - 1 ≡ n = omega arith in
+    let further : (i == z.vcpus + z.hosts) ≡ false = grind (arith, nat_tests) in (
+      i,
+      omega (arith, may),
+      rw (not_less i z.vcpus (omega arith), not_less (i - z.vcpus) z.hosts (omega arith), further) (ap Worker same),
+    )
+
 -- Each line's actor has one.
 present : (z : Sizes) (actor : Actor) (command : Command) → IsCommandFor z actor command → Present z actor
 present z (Vcpu n) (Access gfn word op) may = (n, omega (arith, may.0), rw (less n z.vcpus may.0) refl)
@@ -206,6 +217,8 @@ present z Manager command may = (
       refl,
 )
 present z (Host n) (ChangeHost page change) may = host_present z n may
+present z (Host n) (ChangeRun page change) may = host_present z n may.0
+present z (Worker n) (Split gfn) may = worker_present z n may.0
 present z _ (Access gfn word op) may = absurd may
 present z _ _ may = absurd may
 

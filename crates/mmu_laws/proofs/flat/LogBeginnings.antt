@@ -1,5 +1,8 @@
 -- Where a line stands that is to begin a log for flat memory: no step but a publication leads to such a place from another one, and the line is the manager's.
 use Rattle.mmu_core.specs.declared.log_next.LogNext.{LogNext}
+use Rattle.mmu_core.specs.forms.split.SplitSteps.{split_outcome}
+use Rattle.core_views.specs.declared.place.SplitPlace.{SplitPlace}
+use Rattle.core_views.specs.declared.place.SplitPlace.TheVariants as split
 use Rattle.mmu_core.specs.declared.log_next.LogNext.TheVariants as reads_next
 use Rattle.mmu_core.specs.forms.log.LogOutcomes.{after_log}
 use Rattle.mmu_core.specs.forms.log.LogSteps.{log_next, log_reads}
@@ -18,6 +21,8 @@ use Rattle.core_views.specs.declared.place.FaultNext.{FaultNext}
 use Rattle.core_views.specs.declared.place.FaultNext.TheVariants as next_of
 use Rattle.core_views.specs.declared.place.HostPlace.{HostPlace}
 use Rattle.core_views.specs.declared.place.HostPlace.TheVariants as host_at
+use Rattle.core_views.specs.declared.place.HostRunPlace.{HostRunPlace}
+use Rattle.core_views.specs.declared.place.HostRunPlace.TheVariants as run
 use Rattle.core_views.specs.declared.place.Leaving.TheVariants as leaving
 use Rattle.core_views.specs.declared.place.Place.{Place}
 use Rattle.core_views.specs.declared.place.Place.TheVariants as place
@@ -25,15 +30,18 @@ use Rattle.core_views.specs.declared.place.SlotChangePlace.{SlotChangePlace}
 use Rattle.core_views.specs.declared.place.SlotChangePlace.TheVariants as change
 use Rattle.core_views.specs.declared.place.WriteProtectPlace.TheVariants as protect
 use Rattle.core_views.specs.declared.trace.Command.{Command}
-use Rattle.core_views.specs.declared.trace.Command.TheVariants.{Access, ChangeHost}
+use Rattle.core_views.specs.declared.trace.Command.TheVariants.{Access, ChangeHost, ChangeRun, Split}
 use Rattle.core_views.specs.declared.trace.Op.{Op}
+use Rattle.core_views.specs.declared.trace.RunChange.{RunChange}
 use Rattle.core_views.specs.declared.trace.Slot.{Slot as SlotOf}
 use Rattle.core_views.specs.Held.{Held}
 use Rattle.core_views.specs.HostChanges.{is_own}
+use Rattle.core_views.specs.HostRuns.{owns_run}
 use Rattle.core_views.specs.LogCommands.{is_all_set}
 use Rattle.core_views.specs.SlotCommands.{slot_armed, slot_invalidated}
 use Rattle.core_views.specs.Slots.{contains, is_write}
 use Rattle.part_steps.specs.LogHoldings.{log_end}
+use Rattle.part_steps.specs.PageRuns.{one_look}
 use Rattle.part_steps.specs.SetHoldings.{own_open}
 use Rattle.part_steps.specs.PartTasks.{words_filled}
 use Rattle.mmu_core.specs.declared.invalidate.BeginNext.{BeginNext}
@@ -50,11 +58,13 @@ use Rattle.mmu_core.specs.orders.ClaimSteps.{claim_next}
 use Rattle.mmu_core.specs.forms.access.FaultSteps.{fault_next}
 use Rattle.mmu_core.specs.lines.Forms.{outcome_at}
 use Rattle.mmu_core.specs.forms.host.HostSteps.{host_outcome, moves, after_look, maps_large}
+use Rattle.mmu_core.specs.forms.host_run.HostRunSteps.{host_run_outcome, page_after}
 use Rattle.mmu_core.specs.orders.InvalidateSteps.{begin_next, end_next}
 use Rattle.mmu_core.specs.forms.slot_change.SlotChangeSteps.{after_grace, after_protect, after_set_begin, after_set_end, arm_word, frames_of, log_target}
 use Rattle.mmu_core.specs.forms.slot_change.SlotChangeSteps.{slot_change_outcome, slot_target, watch_next}
 use Rattle.mmu_core.specs.orders.WriteProtectSteps.{protect_next}
 use Rattle.mmu_core.specs.machine.Outcomes.{place_after}
+use Rattle.mmu_core.proofs.forms.host_run.HostRunPlaces.{each_look, each_next_look}
 use Rattle.mmu_core.proofs.lines.EitherPlace.{each_claim, each_watch, either_place, one_place}
 use Rattle.log_invariant.specs.forms.slot_change.LogBegins.{BeginsClean, LogIsUnwatchedAt, begun_at, is_unwatched}
 use Rattle.log_invariant.proofs.StepPlaces.{publishes}
@@ -105,6 +115,20 @@ host_elsewhere (host_at.End ends.Release) page h x =
     either_place GoesElsewhere (moves h.topics) (Goes (place.Host host_at.Watch)) (Ends Done) tt tt
 host_elsewhere (host_at.End _) page h x = tt
 host_elsewhere _ page h x = tt
+
+run_elsewhere : (p : HostRunPlace) (page : ℕ) (change_ : RunChange) (h : Held) (x : ℕ) → GoesElsewhere (host_run_outcome p page change_ h x)
+run_elsewhere run.Look page change_ h x =
+    either_place GoesElsewhere (owns_run h.state.sizes h.state.actor page change_) _ (Ends (Refused OutOfRange))
+    (each_look GoesElsewhere change_ (record { page = page; word = x }) one_look x tt tt tt tt) tt
+run_elsewhere run.LookOn page change_ h x =
+    each_next_look GoesElsewhere change_ h.topics.host h.topics.row (page_after page change_ h.topics) x tt tt tt tt tt
+run_elsewhere (run.End ends.Release) page change_ h x = tt
+run_elsewhere (run.End _) page change_ h x = tt
+run_elsewhere _ page change_ h x = tt
+
+split_elsewhere : (p : SplitPlace) (h : Held) (x : ℕ) → GoesElsewhere (split_outcome p h.state.sizes h.topics x)
+split_elsewhere (split.End e) h x = tt
+split_elsewhere _ h x = tt
 
 log_elsewhere : (n : LogNext) (words : List ℕ) → GoesElsewhere (after_log n words)
 log_elsewhere (reads_next.Goes p) words = tt
@@ -202,7 +226,9 @@ module _ (command : Command) (h : Held) (gfn : ℕ) where
   elsewhere (Goes place.Between) other B = none_begins place.Between refl B
   elsewhere (Goes (place.Access p)) other B = none_begins (place.Access p) refl B
   elsewhere (Goes (place.Host p)) other B = none_begins (place.Host p) refl B
+  elsewhere (Goes (place.HostRun p)) other B = none_begins (place.HostRun p) refl B
   elsewhere (Goes (place.Log p)) other B = none_begins (place.Log p) refl B
+  elsewhere (Goes (place.Split p)) other B = none_begins (place.Split p) refl B
   elsewhere (Goes (place.SlotChange p)) other B = absurd other
 
   -- So where a step leads to such a place that publishes nothing, its own was one.
@@ -214,6 +240,8 @@ module _ (command : Command) (h : Held) (gfn : ℕ) where
       by (place.SlotChange p) c same never B =
           change_before p x never (subst (λ d. At (place_after (slot_change_outcome p d h x))) same B)
       by (place.Host p) (ChangeHost page change_) same never B = elsewhere (host_outcome p page h x) (host_elsewhere p page h x) B
+      by (place.HostRun p) (ChangeRun page change_) same never B = elsewhere (host_run_outcome p page change_ h x) (run_elsewhere p page change_ h x) B
       by (place.Log p) c same never B =
           elsewhere (after_log (log_next p c h x) (log_reads p c h x)) (log_elsewhere (log_next p c h x) (log_reads p c h x)) B
+      by (place.Split p) (Split at) same never B = elsewhere (split_outcome p h.state.sizes h.topics x) (split_elsewhere p h x) B
       by _ _ same never B = B

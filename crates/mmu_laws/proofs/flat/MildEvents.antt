@@ -10,9 +10,11 @@ use Rattle.core_views.specs.declared.place.AccessPlace.TheVariants.{Pause, Touch
 use Rattle.core_views.specs.declared.place.FaultPlace.TheVariants as fault
 use Rattle.core_views.specs.declared.place.HostPlace.{HostPlace}
 use Rattle.core_views.specs.declared.place.HostPlace.TheVariants as host_at
+use Rattle.core_views.specs.declared.place.HostRunPlace.{HostRunPlace}
 use Rattle.core_views.specs.declared.place.Place.{Place}
 use Rattle.core_views.specs.declared.place.Place.TheVariants as place
 use Rattle.core_views.specs.declared.trace.HostChange.{HostChange}
+use Rattle.core_views.specs.declared.trace.RunChange.{RunChange}
 use Rattle.core_views.specs.declared.trace.Line.{Line}
 use Rattle.core_views.specs.declared.trace.Op.{Op}
 use Rattle.core_views.specs.Events.{after, after_all, past_after}
@@ -26,10 +28,12 @@ use Rattle.mmu_core.specs.declared.outcome.Outcome.{Outcome}
 use Rattle.mmu_core.specs.declared.outcome.Outcome.TheVariants.{Goes, Ends}
 use Rattle.mmu_core.specs.forms.access.AccessSteps.{access_tells, exiting, fault_over}
 use Rattle.mmu_core.specs.forms.host.HostSteps.{entry_of, host_outcome, host_tells, word_put, after_look}
+use Rattle.mmu_core.specs.forms.host_run.HostRunSteps.{host_run_tells}
 use Rattle.mmu_core.specs.machine.Outcomes.{answering}
 use Rattle.mmu_core.specs.machine.Steps.{beginning}
 use Rattle.mmu_core.proofs.lines.EitherPlace.{either_place}
 use Rattle.mmu_laws.proofs.flat.Told.{told}
+use Rattle.mmu_laws.proofs.forms.host_run.RunEvents.{run_tells_so}
 
 -- ---- events that leave what was read
 
@@ -110,6 +114,9 @@ host_mild (host_at.Claim begun) page change h v = exit_mild (host_outcome (host_
 host_mild host_at.Change page change h v =
     either_place AreMild (v == word_looked h.topics.host) (HostChanged page (entry_of (word_put change h.topics)) ∷ []) [] (tt, tt) tt
 host_mild _ page change h v = tt
+
+pub host_run_mild : (p : HostRunPlace) (page : ℕ) (change : RunChange) (h : Held) (v : ℕ) → AreMild (host_run_tells p page change h v)
+host_run_mild p = run_tells_so AreMild tt (λ page. (tt, tt)) (λ page refusal no_frame. (tt, (tt, tt))) p (λ at page entry. (tt, tt))
 
 pub begin_mild : (p : Place) (line : Line) → AreMild (beginning p line)
 begin_mild place.Between line = (tt, tt)

@@ -1,5 +1,6 @@
 -- Events that say nothing of dirty logs: which steps tell no others, and that they leave what flat memory keeps of logs.
 use Rattle.core_views.specs.declared.place.LogPlace.{LogPlace}
+use Rattle.mmu_core.proofs.forms.split.SplitTold.{split_tells_so}
 use Rattle.core_views.specs.declared.place.LogPlace.TheVariants as log
 use Rattle.core_views.specs.declared.trace.Slot.{Slot as SlotOf}
 use Rattle.core_views.specs.LogCommands.{log_read}
@@ -22,7 +23,7 @@ use Rattle.core_views.specs.declared.place.SlotChangePlace.{SlotChangePlace}
 use Rattle.core_views.specs.declared.place.SlotChangePlace.TheVariants as change
 use Rattle.core_views.specs.declared.place.WriteProtectPlace.TheVariants as protect
 use Rattle.core_views.specs.declared.trace.Command.{Command}
-use Rattle.core_views.specs.declared.trace.Command.TheVariants.{Access, ChangeHost}
+use Rattle.core_views.specs.declared.trace.Command.TheVariants.{Access, ChangeHost, ChangeRun, Split}
 use Rattle.core_views.specs.declared.trace.HostChange.{HostChange}
 use Rattle.core_views.specs.declared.trace.Line.{Line}
 use Rattle.core_views.specs.declared.trace.Op.{Op}
@@ -44,6 +45,7 @@ use Rattle.mmu_core.specs.machine.Steps.{beginning}
 use Rattle.mmu_core.proofs.lines.EitherPlace.{either_place}
 use Rattle.mmu_laws.specs.flat.FlatLogs.{FlatLogsOf}
 use Rattle.mmu_laws.proofs.flat.Told.{told}
+use Rattle.mmu_laws.proofs.forms.host_run.RunEvents.{run_tells_so}
 
 -- The event arms no slot and changes none, makes no frame dirty, and takes nothing out of a log.
 abbrev pub IsQuiet : EventKind → Type 0
@@ -136,7 +138,12 @@ tells_quiet (place.Access p) _ h v quiet = tt
 tells_quiet (place.SlotChange p) command h v quiet = change_quiet p h command v quiet
 tells_quiet (place.Host p) (ChangeHost page change) h v quiet = host_quiet p page change h v
 tells_quiet (place.Host p) _ h v quiet = tt
+tells_quiet (place.HostRun p) (ChangeRun page change) h v quiet =
+    run_tells_so AreQuiet tt (λ other. (tt, tt)) (λ other refusal no_frame. (tt, (tt, tt))) p (λ at other entry. (tt, tt)) page change h v
+tells_quiet (place.HostRun p) _ h v quiet = tt
 tells_quiet (place.Log p) command h v quiet = log_quiet p command h v quiet
+tells_quiet (place.Split p) (Split gfn) h v quiet = split_tells_so AreQuiet tt (tt, tt) p
+tells_quiet (place.Split p) _ h v quiet = tt
 tells_quiet place.Between command h v quiet = tt
 
 pub begins_quiet : (p : Place) (line : Line) → AreQuiet (beginning p line)

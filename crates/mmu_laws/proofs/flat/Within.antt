@@ -26,8 +26,10 @@ use Rattle.mmu_core.specs.forms.access.AccessSteps.{access_tells, exiting, fault
 use Rattle.mmu_core.specs.lines.Forms.{outcome_at, tells_at}
 use Rattle.core_views.specs.declared.trace.HostChange.{HostChange}
 use Rattle.mmu_core.proofs.lines.Forms.{place_tells}
-use Rattle.mmu_core.proofs.lines.SimplePlaces.{Told, Nothing, Arms, ArmsClean, Exit, Change, OfAccess, OfHost, OfLog}
+use Rattle.mmu_core.proofs.lines.SimplePlaces.{Told, Nothing, Arms, ArmsClean, Exit, Change, OfAccess, OfHost, OfHostRun, OfLog}
 use Rattle.core_views.specs.declared.answer.Answer.{Answer}
+use Rattle.core_views.specs.declared.answer.Answer.TheVariants.{Refused}
+use Rattle.mmu_laws.proofs.forms.host_run.RunEvents.{run_tells_so}
 
 -- What is so of few lists of events is so of what each step tells, besides that its line begins or is answered: of no event, of one that stands within a line,
 -- of a slot's change and such a list after it, of a reading's begin and end, and of a look at a host page and an exit.
@@ -80,6 +82,9 @@ module _ (Q : List EventKind → Type 0) (none : Q []) (one : (k : EventKind) �
       by _ c _ (OfLog q) =
           log_tells_so Q none (λ id. one (Taken id) tt) (λ id frames. one (Harvested id frames) tt) (λ id frames. one (Shown id frames) tt) both q c h v
       by _ _ _ (OfHost q page change_) = host_so q page change_ h v
+      by _ _ _ (OfHostRun q page change_) =
+          run_tells_so Q none (λ other. one (LookedAtHost other) tt) (λ other refusal no_frame. seen other (Refused refusal)) q
+          (λ at other entry. one (HostChanged other entry) tt) page change_ h v
 
 -- Each of the events stands within a line.
 abbrev pub AllWithin : List EventKind → Type 0

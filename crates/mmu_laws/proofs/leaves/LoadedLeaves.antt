@@ -20,6 +20,7 @@ use Rattle.part_steps.specs.declared.part_step.PartStep.{PartStep}
 use Rattle.part_steps.specs.declared.part_step.PartStep.TheVariants as part
 use Rattle.part_steps.specs.FrameHoldings.{revises}
 use Rattle.part_steps.specs.FrameTopics.{is_uncopied}
+use Rattle.part_steps.specs.PageRuns.{word_given}
 use Rattle.part_steps.specs.PartTasks.{page_looked, word_looked}
 use Rattle.part_steps.specs.StayTopics.{is_outside}
 use Rattle.mmu_core.specs.invariant.FramesPart.{IsNamed, number_owned}
@@ -29,6 +30,8 @@ use Rattle.mmu_core.specs.machine.View.{View, part_stepped, upd}
 use Rattle.mmu_core.proofs.held.InSection.{all_passed, watch_passes_nobody}
 use Rattle.mmu_core.proofs.held.LookedFrames.{Turns, changed_turns, copied_number, stored_number}
 use Rattle.mmu_core.proofs.held.LooksKept.{page_there}
+use Rattle.mmu_core.proofs.held.NextPages.{next_page, next_words_behind}
+use Rattle.mmu_core.proofs.words.HostStays.{given_frame}
 use Rattle.mmu_core.proofs.forms.host.MovingPlaces.{CopiesAt, copies_at, is_moving}
 use Rattle.mmu_core.proofs.machine.Columns.{at_upd, same_or, upd_other, upd_same}
 use Rattle.mmu_core.proofs.machine.ColumnsTell.{tells}
@@ -125,9 +128,9 @@ module _ (z : Sizes) (v : View) (a note : ℕ) where
       (changed_turns z v a new_ S t.frames.owned (is_as_looked t v) refl
       (λ e. tells (v.words area.Host (page_looked t.host)) (word_looked t.host) e))
 
-  named_goes : (step : PartStep) (frame : ℕ) → IsPart z v a step → Invariant z v → IsNamed z.pages (v.words area.Host) frame
+  named_goes : (step : PartStep) (frame : ℕ) → IsPart z v a step → Invariant z v → TopicsInvariant z v → IsNamed z.pages (v.words area.Host) frame
       → Now step frame ⊎ MovesOut step frame
-  named_goes part.Bring frame S I N = inl (N.0, N.1, by (same_or N.0 (page_looked t.host)) ∙ N.2)
+  named_goes part.Bring frame S I P N = inl (N.0, N.1, by (same_or N.0 (page_looked t.host)) ∙ N.2)
     where
       put : ℕ
       put = if v.words area.Host (page_looked t.host) == word_looked t.host then with_presence true (word_looked t.host)
@@ -142,8 +145,16 @@ module _ (z : Sizes) (v : View) (a note : ℕ) where
           ap (λ p. host_frame (host_now part.Bring p)) e ∙ ap host_frame (upd_same (v.words area.Host) (page_looked t.host) put) ∙ same
           ∙ ap (λ p. host_frame (v.words area.Host p)) (sym e)
       by (inr ne) = ap host_frame (upd_other (v.words area.Host) (page_looked t.host) N.0 put ne)
-  named_goes (part.Change new_) frame S I N = turned new_ frame S I N (change_turns new_ S) (same_or N.0 (page_looked t.host))
-  named_goes _ frame S I N = inl N
+  named_goes (part.Change new_) frame S I P N = turned new_ frame S I N (change_turns new_ S) (same_or N.0 (page_looked t.host))
+  named_goes part.ChangeNext frame S I P N =
+      inl (N.0, N.1, ap (λ (host : ℕ → ℕ). host_frame (host N.0)) (next_words_behind z v a S P note) ∙ same N.0 ∙ N.2)
+    where
+      same : (q : ℕ) → host_frame (upd (v.words area.Host) (next_page z v a S P) (word_given S.needs.run (next_page z v a S P)) q)
+          ≡ host_frame (v.words area.Host q)
+      same =
+          at_upd (λ (q w : ℕ). host_frame w ≡ host_frame (v.words area.Host q)) (v.words area.Host) (next_page z v a S P) _ (given_frame z v a S P)
+          (λ q ne. refl)
+  named_goes _ frame S I P N = inl N
 
   -- A frame that the actor keeps for actor i is a page's after the step, or kept for it.
   keeps : (step : PartStep) (i frame : ℕ) → IsPart z v a step → TopicsInvariant z v → i ≢ a → i < actors_of z → is_outside (v.hand i).topics.stay ≡ false
@@ -208,7 +219,7 @@ module _ (z : Sizes) (v : View) (a note : ℕ) (step : PartStep) (S : IsPart z v
     where
       held : is_outside (v.hand a).topics.stay ≡ false
           → IsNamed z.pages (v.words area.Host) frame ⊎ IsKeptFor (actors_of z) (λ j. (v.hand j).topics) a frame → Kept a frame
-      held within (inl N) = goes (named_goes z v a note step frame S I N)
+      held within (inl N) = goes (named_goes z v a note step frame S I P N)
         where
           goes : IsNamed z.pages (host_now z v a note step) frame ⊎ MovesOut z v a note step frame → Kept a frame
           goes (inl is) = inl is
@@ -224,7 +235,7 @@ module _ (z : Sizes) (v : View) (a note : ℕ) (step : PartStep) (S : IsPart z v
   theirs i frame ne lt inside H = by (L i frame lt inside H)
     where
       by : IsNamed z.pages (v.words area.Host) frame ⊎ IsKeptFor (actors_of z) (λ j. (v.hand j).topics) i frame → Kept i frame
-      by (inl N) = goes (named_goes z v a note step frame S I N)
+      by (inl N) = goes (named_goes z v a note step frame S I P N)
         where
           goes : IsNamed z.pages (host_now z v a note step) frame ⊎ MovesOut z v a note step frame → Kept i frame
           goes (inl is) = inl is

@@ -11,7 +11,7 @@ use Rattle.core_views.specs.declared.topics.Stay.TheVariants.{Outside}
 use Rattle.core_views.specs.declared.topics.TableWalk.{TableWalk}
 use Rattle.core_views.specs.declared.topics.Topics.{Topics}
 use Rattle.core_views.specs.Held.{Held}
-use Rattle.core_views.specs.Sizes.{actors_of}
+use Rattle.core_views.specs.Sizes.{AreSizes, actors_of}
 use Rattle.spte_words.specs.declared.area.Area.TheVariants as area
 use Rattle.spte_words.specs.declared.spte_kind.SpteKind.TheVariants.{Leaf}
 use Rattle.spte_words.specs.Areas.{pool_index}
@@ -19,6 +19,7 @@ use Rattle.spte_words.specs.Entries.{kind_of, level_span}
 use Rattle.part_steps.specs.declared.part_step.PartStep.{PartStep}
 use Rattle.part_steps.specs.declared.part_step.PartStep.TheVariants as part
 use Rattle.part_steps.specs.InvalidationRange.{page_looked}
+use Rattle.part_steps.specs.PageRuns.{IsOnRun}
 use Rattle.part_steps.specs.PageTopics.{still_retired}
 use Rattle.part_steps.specs.PartTasks.{entry_index, table_page, word_looked}
 use Rattle.part_steps.specs.SlotWords.{page_of}
@@ -35,7 +36,9 @@ use Rattle.mmu_core.specs.machine.Machine.{World, hand_in}
 use Rattle.mmu_core.specs.machine.View.{View, part_stepped, upd, view, word_in}
 use Rattle.mmu_core.proofs.held.FreshFrames.{behind_it, leaf_brought, leaf_same}
 use Rattle.mmu_core.proofs.held.InvalidationsKept.{alone_holds}
-use Rattle.mmu_core.proofs.held.KeptEmpty.{empty_open, page_empty}
+use Rattle.mmu_core.proofs.held.KeptEmpty.{changed_empty, empty_open, page_empty}
+use Rattle.mmu_core.proofs.held.NextPages.{next_on_own, next_page, next_words}
+use Rattle.mmu_core.proofs.held.PageRuns.{on_it, some_run}
 use Rattle.mmu_core.proofs.machine.Columns.{at_upd, same_or, upd_same}
 use Rattle.mmu_core.proofs.machine.PartStepping.{IsPart}
 use Rattle.mmu_core.proofs.pages.LeavesOver.{leaf_for}
@@ -46,7 +49,6 @@ use Rattle.mmu_core.proofs.slots.LiveStays.{live_in_stays, part_live_stays}
 use Rattle.mmu_core.proofs.words.PartTopics.{behind_step, part_behind, stepped_hand}
 use Rattle.mmu_laws.proofs.leaves.OwnLeaves.{StandsThere, gone_found}
 use Rattle.mmu_laws.proofs.leaves.TopicRuns.{SaidOf}
-use Rattle.mmu_core.proofs.held.PageRuns.{some_run}
 
 -- Who holds the lock so, is there and walks so shares the lock outside, and has loaded a leaf which is over the guest frame.
 pub record SharesLeaf (gfn : ℕ) (hold : Hold) (stay : Stay) (walk : TableWalk) : Type 0 where
@@ -182,6 +184,7 @@ module _ (z : Sizes) (v : View) (a note : ℕ) where
   )
   swept_before part.GiveOld gfn S none keeps asked is_in =
       absurd (let on = empty_open (now part.GiveOld) keeps in let off = S.needs.closed in cc (on, off))
+  swept_before part.ChangeNext gfn S none keeps asked is_in = (changed_empty t _ keeps, asked, is_in)
   swept_before _ gfn S none keeps asked is_in = (keeps, asked, is_in)
 
   unswept_stays : (step : PartStep) (gfn : ℕ) → IsPart z v a step → (t.hold ≡ Exclusive → ⊥) → IsUnswept (actors_of z) (λ j. (v.hand j).topics) gfn
@@ -190,6 +193,29 @@ module _ (z : Sizes) (v : View) (a note : ℕ) where
       at_upd (λ j (h : Held). j < actors_of z → keeps_empty h.topics ≡ true → 1 ≤ h.topics.flush.asked → IsIn h.topics.invalidations.own gfn → ⊥) v.hand a
       (stepped_hand a step note v)
       (λ lt keeps asked is_in. let was = swept_before step gfn S none keeps asked is_in in U a lt was.0 was.1 was.2) (λ j ne. U j)
+
+  -- What slots and host give they give still where a page is changed of the run of an own invalidation that has asked for flushes.
+  changed_stays : (page word level gfn leaf : ℕ) → a < actors_of z → TopicsInvariant z v → t.invalidations.opened ≡ true
+      → IsOnRun page t.invalidations.own.pages → 1 ≤ t.flush.asked → IsUnswept (actors_of z) (λ j. (v.hand j).topics) gfn
+      → IsLeafFor (v.words area.Pool) (v.words area.Host) (v.words area.Slots 0) level gfn leaf
+      → IsLeafFor (v.words area.Pool) (upd (v.words area.Host) page word) (v.words area.Slots 0) level gfn leaf
+  changed_stays page word level gfn leaf there I opened on asked U L = by (same_or (page_of L.slot gfn) page)
+    where
+      by : (page_of L.slot gfn ≡ page) ⊎ (page_of L.slot gfn ≢ page)
+          → IsLeafFor (v.words area.Pool) (upd (v.words area.Host) page word) (v.words area.Slots 0) level gfn leaf
+      by (inl e) =
+          let B = behind_it L.slot gfn L.holds in
+          let given : SlotGives (v.words area.Pool) (v.words area.Slots 0) (page_of L.slot gfn) gfn =
+          record { id = L.id; slot = L.slot; live = L.live; has = B.0; is = B.1 } in
+          absurd (U a there (page_empty t page opened on) asked
+          ((I.scopes a there opened (some_run page t.invalidations.own.pages on)).covers page gfn on
+          (subst (λ p. SlotGives (v.words area.Pool) (v.words area.Slots 0) p gfn) e given)))
+      by (inr ne) = leaf_same (v.words area.Pool) (v.words area.Host) (v.words area.Slots 0) page word level gfn leaf L (λ e. absurd (ne e))
+
+  some_asked : AreSizes z → (v.hand a).state.sizes ≡ z → (v.hand a).state.sizes.vcpus ≤ t.flush.asked → 1 ≤ t.flush.asked
+  some_asked sizes same all =
+      let some = sizes.some in
+      let each = subst (λ (y : Sizes). y.vcpus ≤ t.flush.asked) same all in omega (arith, some, each)
 
   -- And what slots and host give they give still.
   given_stays : (step : PartStep) (level gfn leaf : ℕ) → IsPart z v a step → TopicsInvariant z v → (t.hold ≡ Exclusive → ⊥)
@@ -200,25 +226,13 @@ module _ (z : Sizes) (v : View) (a note : ℕ) where
   given_stays part.Publish level gfn leaf S I none U L = absurd (none S.needs.alone)
   given_stays part.Bring level gfn leaf S I none U L =
       leaf_brought (v.words area.Pool) (v.words area.Host) (v.words area.Slots 0) (page_looked t.host) (word_looked t.host) level gfn leaf S.needs.absent L
-  given_stays (part.Change new_) level gfn leaf S I none U L = by (same_or (page_of L.slot gfn) (page_looked t.host))
-    where
-      asked : 1 ≤ t.flush.asked
-      asked =
-          let some = S.is_sizes.some in
-          let all = subst (λ (y : Sizes). y.vcpus ≤ t.flush.asked) S.sizes S.needs.0.asked in omega (arith, some, all)
-
-      by : (page_of L.slot gfn ≡ page_looked t.host) ⊎ (page_of L.slot gfn ≢ page_looked t.host)
-          → IsLeafFor ((part_stepped a (part.Change new_) note v).words area.Pool) ((part_stepped a (part.Change new_) note v).words area.Host)
-          ((part_stepped a (part.Change new_) note v).words area.Slots 0) level gfn leaf
-      by (inl e) =
-          let B = behind_it L.slot gfn L.holds in
-          let given : SlotGives (v.words area.Pool) (v.words area.Slots 0) (page_of L.slot gfn) gfn =
-          record { id = L.id; slot = L.slot; live = L.live; has = B.0; is = B.1 } in
-          absurd (U a S.there (page_empty t (page_looked t.host) S.needs.0.opened S.needs.0.invalid) asked
-          ((I.scopes a S.there S.needs.0.opened (some_run (page_looked t.host) t.invalidations.own.pages S.needs.0.invalid)).covers (page_looked t.host) gfn
-          S.needs.0.invalid
-          (subst (λ p. SlotGives (v.words area.Pool) (v.words area.Slots 0) p gfn) e given)))
-      by (inr ne) = leaf_same (v.words area.Pool) (v.words area.Host) (v.words area.Slots 0) (page_looked t.host) _ level gfn leaf L (λ e. absurd (ne e))
+  given_stays (part.Change new_) level gfn leaf S I none U L =
+      changed_stays (page_looked t.host) _ level gfn leaf S.there I S.needs.0.opened (on_it (page_looked t.host) t.invalidations.own.pages S.needs.0.invalid)
+      (some_asked S.is_sizes S.sizes S.needs.0.asked) U L
+  given_stays part.ChangeNext level gfn leaf S I none U L =
+      subst (λ (host : ℕ → ℕ). IsLeafFor (v.words area.Pool) host (v.words area.Slots 0) level gfn leaf) (sym (next_words z v a S I note))
+      (changed_stays (next_page z v a S I) _ level gfn leaf S.there I S.needs.opened (next_on_own z v a S I)
+      (some_asked S.is_sizes S.sizes S.needs.asked) U L)
   given_stays step level gfn leaf S I none U L =
       leaf_stays (v.words area.Pool) (v.words area.Slots 0) ((part_stepped a step note v).words area.Pool) (v.words area.Slots 0)
       (λ id slot live. live_in_stays (v.words area.Slots 0) (v.words area.Pool) ((part_stepped a step note v).words area.Pool) id slot

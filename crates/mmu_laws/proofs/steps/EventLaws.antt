@@ -36,7 +36,7 @@ use Rattle.mmu_core.specs.lines.Forms.{KnowsPart, note_at, outcome_at, part_at, 
 use Rattle.mmu_core.specs.lines.PartAt.{touch_at}
 use Rattle.mmu_core.proofs.lines.Forms.{place_tells}
 use Rattle.part_steps.specs.ControlBits.{has_to_flush}
-use Rattle.mmu_core.proofs.lines.SimplePlaces.{Told, Nothing, Arms, ArmsClean, Exit, Change, OfAccess, OfHost, OfLog}
+use Rattle.mmu_core.proofs.lines.SimplePlaces.{Told, Nothing, Arms, ArmsClean, Exit, Change, OfAccess, OfHost, OfHostRun, OfLog}
 use Rattle.part_steps.specs.declared.part_step.PartStep.{PartStep}
 use Rattle.mmu_core.specs.machine.Enabled.{mmu}
 use Rattle.mmu_core.specs.machine.Machine.{May, Step, World, answered, hand_in}
@@ -58,6 +58,7 @@ use Rattle.mmu_core.proofs.machine.Which.{is_next}
 use Rattle.part_steps.specs.Tasks.{kind_of_task}
 use Rattle.mmu_laws.specs.steps.EventLaws.{HasAwaited, IsOfKindOn, MayTell, MayTellOf}
 use Rattle.mmu_laws.proofs.steps.MayTells.{AllMay, answers_so, begins_so, exits_so, none, one}
+use Rattle.mmu_laws.proofs.forms.host_run.RunTold.{host_run_told}
 use Rattle.mmu_laws.proofs.forms.log.ReadingEvents.{log_told}
 use Rattle.core_views.specs.declared.answer.Refusal.TheVariants.{OutOfRange}
 use Rattle.core_views.specs.declared.answer.Answer.TheVariants.{Refused}
@@ -165,6 +166,7 @@ module _ (h : Held) (v : ℕ) where
   line_told _ _ _ (OfAccess p gfn word op) K = access_told p gfn word op K
   line_told _ command _ (OfLog p) K = log_told h v p command K
   line_told _ _ _ (OfHost p page change) K = host_told p page change K
+  line_told _ _ _ (OfHostRun p page change) K = host_run_told h v p page change K
 
   -- with its line's begin and its answer
   all_told : KnowsPart (place_at h.state.place h) (line_of h).command h

@@ -43,16 +43,16 @@ unfolding flushed topics_after place kind_of level_span table_word frozen_word c
 run_whole = (refl, refl)
 
 -- The one host thread has all pages.
-firsts_rise : (host : ℕ) → first_page_in (0 ∷ 128 ∷ 128 ∷ 128 ∷ []) 128 host ≤ first_page_in (0 ∷ 128 ∷ 128 ∷ 128 ∷ []) 128 (host + 1)
-firsts_rise zero = omega arith
-firsts_rise (suc zero) = omega arith
-firsts_rise (suc (suc zero)) = omega arith
-firsts_rise (suc (suc (suc n))) = let last = past (suc (suc (suc n)) + 1) (omega arith) in let here = from_third n in omega (arith, here, last)
+pub firsts_rise : (pages host : ℕ) → first_page_in (0 ∷ pages ∷ pages ∷ pages ∷ []) pages host ≤ first_page_in (0 ∷ pages ∷ pages ∷ pages ∷ []) pages (host + 1)
+firsts_rise pages zero = omega arith
+firsts_rise pages (suc zero) = omega arith
+firsts_rise pages (suc (suc zero)) = omega arith
+firsts_rise pages (suc (suc (suc n))) = let last = past (suc (suc (suc n)) + 1) (omega arith) in let here = from_third n in omega (arith, here, last)
   where
-    past : (k : ℕ) → 4 ≤ k → first_page_in (0 ∷ 128 ∷ 128 ∷ 128 ∷ []) 128 k ≡ 128
-    past k le = ap (λ (o : Option ℕ). unwrap_or o 128) (slice_get_past (0 ∷ 128 ∷ 128 ∷ 128 ∷ []) k le)
+    past : (k : ℕ) → 4 ≤ k → first_page_in (0 ∷ pages ∷ pages ∷ pages ∷ []) pages k ≡ pages
+    past k le = ap (λ (o : Option ℕ). unwrap_or o pages) (slice_get_past (0 ∷ pages ∷ pages ∷ pages ∷ []) k le)
 
-    from_third : (m : ℕ) → first_page_in (0 ∷ 128 ∷ 128 ∷ 128 ∷ []) 128 (suc (suc (suc m))) ≡ 128
+    from_third : (m : ℕ) → first_page_in (0 ∷ pages ∷ pages ∷ pages ∷ []) pages (suc (suc (suc m))) ≡ pages
     from_third zero = refl
     from_third (suc m) = past (suc (suc (suc (suc m)))) (omega arith)
 
@@ -68,7 +68,7 @@ sizes_in_range frames pool least most some few = record {
   pool = (omega (arith, some), omega (arith, few));
   cache = (omega arith, omega arith);
   firsts = four (λ page. page ≤ 128) 0 128 128 128 (omega arith) (omega arith) (omega arith) (omega arith);
-  rising = record { each = firsts_rise };
+  rising = record { each = firsts_rise 128 };
 }
 
 pub frames_in_range : (frames : ℕ) → 128 ≤ frames → frames ≤ 1000 → AreSizes (record run_sizes { frames = frames })

@@ -185,14 +185,14 @@ one_made F n steps h =
     (record { page = o.page; filled = more s; entry = o.entry; level = o.level; below = below s; role = o.role }) (count s) h
 
 -- a hand that is stored twice
-stored_again : (hand : ℕ → Held) (a i : ℕ) (x y y' : Held) → y ≡ y' → upd (upd hand a x) a y i ≡ upd hand a y' i
+pub stored_again : (hand : ℕ → Held) (a i : ℕ) (x y y' : Held) → y ≡ y' → upd (upd hand a x) a y i ≡ upd hand a y' i
 stored_again hand a i x y y' e = by (i == a)
   where
     by : (b : Bool) → (if b then y else (if b then x else hand i)) ≡ (if b then y' else hand i)
     by true = e
     by false = refl
 
-nothing_stored : (hand : ℕ → Held) (a i : ℕ) (x : Held) → hand a ≡ x → hand i ≡ upd hand a x i
+pub nothing_stored : (hand : ℕ → Held) (a i : ℕ) (x : Held) → hand a ≡ x → hand i ≡ upd hand a x i
 nothing_stored hand a i x e = by (same_or i a)
   where
     by : (i ≡ a) ⊎ (i ≢ a) → hand i ≡ upd hand a x i

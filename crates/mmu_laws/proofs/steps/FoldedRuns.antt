@@ -1,5 +1,5 @@
--- Rounds of actors, with the fills of pages made at once: where they lead and what they tell, by computation over some hundred steps where a run
--- has two thousand.
+-- Rounds of actors, with the fills of pages, and the looks and changes of runs of host pages, made at once: where they lead and what they tell, by
+-- computation over some hundred steps where a run has two thousand.
 use Rattle.std.proofs.Common.{◌≡◌, ◌≢◌, ◌+◌, ◌-◌, ◌^◌, ◌≤◌, ℕ, zero, suc, List, [], ◌∷◌, ◌++◌, refl, sym, subst, ap, ◌∙◌, arith}
 use Rattle.std.specs.Prelude.{Bool, true, false, ◌&&◌, ◌==◌, not, nat_le, nat_lt, Option, Some, None}
 use Rattle.std.proofs.lemmas.Bool.Decides.{nat_tests}
@@ -12,13 +12,16 @@ use Rattle.mmu_laws.specs.steps.ExampleRaces.{in_turn}
 use Rattle.mmu_laws.proofs.steps.FilledPages.{Filler, at_fill, filled}
 use Rattle.mmu_laws.proofs.steps.FilledRounds.{CanFill, can_run, rounds_run}
 use Rattle.mmu_laws.proofs.steps.PageFillers.{Fills, filler_at, filler_fills}
+use Rattle.mmu_laws.proofs.steps.RunFolds.{Fold, fold_fits, fold_of, fold_runs, most_of, series_of}
+use Rattle.mmu_laws.proofs.steps.Series.{after_steps, series_tells}
 use Rattle.mmu_laws.proofs.steps.ViewRuns.{HaveLines, Runs, below, both, have_lines, have_lines_by, no_turns, run_on, tale, turned_all}
 
--- The next rounds of some actors: one; or so many fills of the only one, or of both.
+-- The next rounds of some actors: one; or so many fills of the only one, or of both; or so many looks or changes of the only one.
 pub data Leap : Type 0 where
   Once : Leap
   Fill : Filler → ℕ → Leap
   BothFill : Filler → Filler → ℕ → Leap
+  Many : Fold → ℕ → Leap
 
 -- as many fills as are left of these rounds and of the page
 abbrev fewer : Bool → ℕ → ℕ → ℕ
@@ -28,9 +31,13 @@ fewer false m n = n
 abbrev left_of : Filler → ℕ → ℕ
 left_of F count = fewer (nat_le count (512 - F.owned.filled)) count (512 - F.owned.filled)
 
-abbrev leap_by : Option Filler → ℕ → Leap
-leap_by None count = Once
-leap_by (Some F) count = Fill F (left_of F count)
+abbrev many_or_once : Fold → ℕ → Leap
+many_or_once fold zero = Once
+many_or_once fold (suc n) = Many fold (suc n)
+
+abbrev leap_by : Option Filler → Held → ℕ → Leap
+leap_by None h count = many_or_once (fold_of h) (fewer (nat_le count (most_of (fold_of h) h)) count (most_of (fold_of h) h))
+leap_by (Some F) h count = Fill F (left_of F count)
 
 abbrev leap_by_both : Option Filler → Option Filler → ℕ → Leap
 leap_by_both (Some F) (Some G) count = BothFill F G (left_of F (left_of G count))
@@ -40,7 +47,7 @@ abbrev filler_of : Held → Option Filler
 filler_of h = filler_at h.state.place h.state.line.command h.topics.owned h
 
 abbrev leap : View → List ℕ → ℕ → Leap
-leap v (a ∷ []) count = leap_by (filler_of (v.hand a)) count
+leap v (a ∷ []) count = leap_by (filler_of (v.hand a)) (v.hand a) count
 leap v (a ∷ b ∷ []) count = leap_by_both (filler_of (v.hand a)) (filler_of (v.hand b)) count
 leap v _ count = Once
 
@@ -49,16 +56,19 @@ abbrev leapt : Leap → List ℕ → View → View
 leapt (Fill F n) (a ∷ []) v = filled F n (v.hand a).state.steps (v.hand a) a v
 leapt (BothFill F G n) (a ∷ b ∷ []) v =
     filled G n (v.hand b).state.steps (v.hand b) b (filled F n (v.hand a).state.steps (v.hand a) a v)
+leapt (Many fold n) (a ∷ []) v = after_steps (series_of fold v.words (v.hand a)) a v.hand n
 leapt _ actors v = turned_all v actors
 
 abbrev leap_tells : Leap → List ℕ → View → List Event
 leap_tells Once actors v = tale v actors
+leap_tells (Many fold n) (a ∷ []) v = series_tells (series_of fold v.words (v.hand a)) 0 n
 leap_tells _ actors v = []
 
 abbrev rounds_in : Leap → ℕ
 rounds_in Once = 1
 rounds_in (Fill F n) = n
 rounds_in (BothFill F G n) = n
+rounds_in (Many fold n) = n
 
 -- The actor has a line left; its fills are of a page of the pool, none comes after the page's last word, and the count of steps has room for them.
 abbrev fills_fit : Sizes → Filler → ℕ → ℕ → View → Bool
@@ -72,6 +82,7 @@ leap_fits z Once actors count v = have_lines z v actors && nat_le 1 count
 leap_fits z (Fill F n) (a ∷ []) count v = fills_fit z F n a v && nat_le n count
 leap_fits z (BothFill F G n) (a ∷ b ∷ []) count v =
     (fills_fit z F n a v && fills_fit z G n b v) && ((not (a == b) && not (F.owned.page == G.owned.page)) && nat_le n count)
+leap_fits z (Many fold n) (a ∷ []) count v = (have_lines z v (a ∷ []) && fold_fits fold n v.words (v.hand a)) && nat_le n count
 leap_fits z _ actors count v = false
 
 -- ---- so many rounds of some actors, with fuel
@@ -176,9 +187,21 @@ can_fill z F n a v is fits = record {
 abbrev Leaps : Sizes → View → List ℕ → ℕ → Leap → Type 0
 Leaps z v actors count l = Runs z v (in_turn (rounds_in l) actors) (leapt l actors v) (leap_tells l actors v) × (rounds_in l ≤ count)
 
+many_leap : (z : Sizes) (v : View) (a count n : ℕ) → leap_fits z (many_or_once (fold_of (v.hand a)) n) (a ∷ []) count v ≡ true
+    → Leaps z v (a ∷ []) count (many_or_once (fold_of (v.hand a)) n)
+many_leap z v a count zero fits = once_runs z v (a ∷ []) count fits
+many_leap z v a count (suc n) fits =
+    let h : Held = v.hand a in
+    let halves = both (have_lines z v (a ∷ []) && fold_fits (fold_of h) (suc n) v.words h) (nat_le (suc n) count) fits in
+    let rest = both (have_lines z v (a ∷ [])) (fold_fits (fold_of h) (suc n) v.words h) halves.0 in (
+      fold_runs z a (suc n) v h.state.place h.state.line.command h.topics.host h.topics.invalidations.own.pages refl refl refl refl rest.0 rest.1,
+      within (suc n) count halves.1,
+    )
+
 one_leaps : (z : Sizes) (v : View) (a count : ℕ) (x : Option Filler) → filler_of (v.hand a) ≡ x
-    → leap_fits z (leap_by x count) (a ∷ []) count v ≡ true → Leaps z v (a ∷ []) count (leap_by x count)
-one_leaps z v a count None is fits = once_runs z v (a ∷ []) count fits
+    → leap_fits z (leap_by x (v.hand a) count) (a ∷ []) count v ≡ true → Leaps z v (a ∷ []) count (leap_by x (v.hand a) count)
+one_leaps z v a count None is fits =
+    many_leap z v a count (fewer (nat_le count (most_of (fold_of (v.hand a)) (v.hand a))) count (most_of (fold_of (v.hand a)) (v.hand a))) fits
 one_leaps z v a count (Some F) is fits =
     let n : ℕ = left_of F count in
     let halves = both (fills_fit z F n a v) (nat_le n count) fits in

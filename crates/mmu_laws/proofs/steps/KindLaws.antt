@@ -1,19 +1,19 @@
--- What a hand holds that makes a step of a kind: which step of a part it is, what this needs, and so what is zapped, changed and brought in.
-use Rattle.std.proofs.Common.{◌≡◌, ◌≢◌, ◌⊎◌, inl, inr, ◌<◌, ◌≤◌, ◌/◌, ℕ, refl, sym, subst, ap, ◌∙◌, arith}
+-- What a hand holds that makes a step of a kind: which step of a part it is, what this needs, and so what is zapped and brought in.
+use Rattle.std.proofs.Common.{◌≡◌, ◌≢◌, ◌⊎◌, inl, inr, ◌<◌, ◌/◌, ℕ, refl, sym, subst, ap, ◌∙◌, arith}
 use Rattle.std.specs.Prelude.{true, Some, Option, None, is_some, false}
 use Rattle.core_views.specs.declared.kind.Kind.{Kind}
 use Rattle.core_views.specs.declared.kind.StepKind.{StepKind}
 use Rattle.core_views.specs.declared.kind.StepKind.TheVariants as kind
+use Rattle.core_views.specs.declared.place.Place.{Place}
 use Rattle.core_views.specs.declared.sizes.Sizes.{Sizes}
 use Rattle.core_views.specs.declared.topics.Hold.TheVariants.{Exclusive}
 use Rattle.core_views.specs.declared.topics.HostLook.{HostLook}
 use Rattle.core_views.specs.declared.topics.Stay.TheVariants.{Outside}
 use Rattle.core_views.specs.declared.topics.Topics.{Topics}
-use Rattle.core_views.specs.declared.trace.Line.{Line}
+use Rattle.core_views.specs.declared.trace.Command.{Command}
 use Rattle.core_views.specs.declared.trace.Op.{Op}
 use Rattle.core_views.specs.declared.trace.Op.TheVariants.{Add, Read, Write}
 use Rattle.core_views.specs.Held.{Held, has_line}
-use Rattle.core_views.specs.HostChanges.{is_own}
 use Rattle.core_views.specs.Kinds.{kind_named}
 use Rattle.core_views.specs.Sizes.{actors_of}
 use Rattle.spte_words.specs.HostWords.{host_present, with_presence}
@@ -26,27 +26,31 @@ use Rattle.part_steps.specs.declared.part_step.PartStep.TheVariants as part
 use Rattle.part_steps.specs.declared.task.Task.{Task}
 use Rattle.part_steps.specs.LockHoldings.{MayRelease}
 use Rattle.part_steps.specs.PartHoldings.{SawEntry}
+use Rattle.part_steps.specs.PartSteps.{needs_line}
 use Rattle.part_steps.specs.PartTasks.{entry_index, own_index, page_looked, part_task, table_page, word_looked}
 use Rattle.part_steps.specs.Tasks.{kind_of_task}
 use Rattle.mmu_core.specs.alone.FaultAlone.{LeadsTo}
 use Rattle.mmu_core.specs.invariant.InvalidationsPart.{IsEntryStill}
 use Rattle.mmu_core.specs.invariant.Laws.{IsSound}
 use Rattle.mmu_core.specs.invariant.TreePart.{at, stands}
-use Rattle.mmu_core.specs.forms.access.AccessSteps.{touch_of}
+use Rattle.mmu_core.specs.lines.Forms.{note_at, part_at}
+use Rattle.mmu_core.specs.lines.PartAt.{touch_at}
+use Rattle.mmu_core.specs.forms.access.AccessSteps.{task_by, touch_of}
 use Rattle.mmu_core.specs.machine.Enabled.{IsPartStep, mmu}
 use Rattle.mmu_core.specs.machine.Machine.{May, Step, World, hand_in}
-use Rattle.mmu_core.specs.machine.Steps.{line_at, place_at, task_of}
+use Rattle.mmu_core.specs.machine.Steps.{place_at}
+use Rattle.mmu_core.specs.machine.Turns.{line_of}
 use Rattle.mmu_core.specs.machine.View.{view, word_in}
-use Rattle.mmu_core.proofs.lines.StepIn.{StepIn, Touches, step_in}
-use Rattle.mmu_core.proofs.lines.StepIn as step_in_
+use Rattle.mmu_core.proofs.invariant.Kept.{makes_at}
+use Rattle.mmu_core.proofs.invariant.QuietKept.{MakesAt, touched}
 use Rattle.mmu_core.proofs.machine.Views.{named_is}
 use Rattle.mmu_core.proofs.machine.Which.{is_next, is_part}
 use Rattle.mmu_core.proofs.machine.Worlds.{Takes, TakesPart, are_small, takes}
-use Rattle.mmu_laws.specs.steps.InvalidationLaws.{BringsAbsentPage, BringsAreOfAbsentPages, ChangesAreInvalidated, ChangesOwnPage, ZapsAreOfOpenInvalidations}
+use Rattle.mmu_laws.specs.steps.InvalidationLaws.{BringsAbsentPage, BringsAreOfAbsentPages, ZapsAreOfOpenInvalidations}
 use Rattle.mmu_laws.specs.steps.InvalidationLaws.{HasNoneLeft, ReleasesLeaveNothing, ZapsOwnFrame}
 use Rattle.mmu_laws.proofs.steps.ReleaseLaws.{none_left}
 use Rattle.mmu_laws.specs.steps.TouchLaws.{touches}
-use Rattle.mmu_laws.proofs.causes.MadeSteps.{Makes, in_machine, own_sizes, word_on}
+use Rattle.mmu_laws.proofs.causes.MadeSteps.{Makes, in_machine, word_on}
 use Rattle.mmu_laws.proofs.leaves.LeadsDown.{leads_at, leads_down}
 use Rattle.mmu_core.proofs.pages.EntryStill.{still_leaf}
 
@@ -67,39 +71,53 @@ module _ (z : Sizes) (w : World Held) (s : Step Kind) (G : IsSound z w) (may : M
   abbrev pub t : Topics
   t = h.topics
 
+  -- It is the next step of its actor's line, which is this step of a part.
+  pub record TakesStep (step : PartStep) : Type 0 where
+    pub takes_ : Takes z w s h
+    pub at : part_at (place_at h.state.place h) (line_of h).command h ≡ Some step
+
   -- The step of a part that it is, of this kind.
   pub record Made (k : StepKind) : Type 0 where
     pub step : PartStep
     pub makes : Makes h s step
     pub kind_is : (part_task step (own_index h) t makes.note).kind ≡ k
+    pub of_line : needs_line step ≡ true → TakesStep step
 
   of_kind : (k : StepKind) (task : Task) → s.kind ≡ kind_of_task h.state.sizes task → kind_named s.kind.code ≡ k → task.kind ≡ k
   of_kind k task is named = sym (named_is task.kind) ∙ (sym (ap (λ (x : Kind). kind_named x.code) is) ∙ named)
 
-  by_task : (k : StepKind) → IsOfPart k → kind_named s.kind.code ≡ k → (task : Task) → StepIn z (view z w) s.actor task
-      → s.kind ≡ kind_of_task h.state.sizes task → Made k
-  by_task k other named _ (step_in_.Makes step note P) is = record {
+  -- where the line stands, and its command
+  abbrev stood : Place
+  stood = place_at h.state.place h
+
+  abbrev command : Command
+  command = (line_of h).command
+
+  by_part : (k : StepKind) → IsOfPart k → kind_named s.kind.code ≡ k → Takes z w s h → MakesAt z (view z w) s.actor stood command → (o : Option PartStep)
+      → part_at stood command h ≡ o → s.kind ≡ kind_of_task h.state.sizes (task_by o h (note_at stood command h) (touch_at command h)) → Made k
+  by_part k other named T makes (Some step) at is = record {
     step = step;
-    makes = record { note = note; is = is; needs = P.needs };
-    kind_is = of_kind k (part_task step (own_index h) t note) is named;
+    makes = record { note = note_at stood command h; is = is; needs = (makes step at).needs };
+    kind_is = of_kind k (part_task step (own_index h) t (note_at stood command h)) is named;
+    of_line = λ needs. record { takes_ = T; at = at };
   }
-  by_task k other named _ (Touches op index) is = absurd (other op index (of_kind k (touch_of op index) is named))
+  by_part k other named T makes None at is =
+      let touch = touched stood command h at in absurd (other touch.0 touch.1 (ap (λ (x : Task). x.kind) (sym touch.2) ∙ of_kind k (touch_at command h) is named))
 
   pub made : (k : StepKind) → IsOfPart k → kind_named s.kind.code ≡ k → Made k
   made k other named = by (takes z w s G may)
     where
       by : Takes z w s h ⊎ TakesPart z w s h → Made k
       by (inl T) =
-          let line : Line = line_at h.state.place h in
-          by_task k other named (task_of h)
-          (step_in z (view z w) s.actor line line.command (place_at h.state.place h) (are_small z w G) T.is_step G.holds G.topics)
-          (is_next h s.kind may.enabled T.has).is
+          by_part k other named T (makes_at z (view z w) s.actor (line_of h) command stood (are_small z w G) T.is_step G.holds G.topics)
+          (part_at stood command h) refl (is_next h s.kind may.enabled T.has).is
       by (inr T) =
           let P : IsPartStep h s.kind = is_part h s.kind may.enabled T.none_left in
           record {
             step = P.step;
             makes = record { note = P.note; is = P.is; needs = P.needs };
             kind_is = of_kind k (part_task P.step (own_index h) t P.note) P.is named;
+            of_line = λ needs. let free = P.free in absurd (cc (needs, free));
           }
 
   -- ---- what is zapped
@@ -164,22 +182,7 @@ module _ (z : Sizes) (w : World Held) (s : Step Kind) (G : IsSound z w) (may : M
         leaf = L.leaf;
       }
 
-  -- ---- what is changed, and what is brought in
-
-  changes_page : (new_ : ℕ) → Makes h s (part.Change new_) → ChangesOwnPage z w s
-  changes_page new_ M =
-      let N = M.needs.0 in
-      let same = own_sizes z w s G may in
-      record {
-        page = page_looked t.host;
-        on = word_on z w s G may (part.Change new_) M;
-        own_ = subst (λ (y : Sizes). is_own y h.state.actor (page_looked t.host) ≡ true) same N.own_;
-        opened = N.opened;
-        unraised = N.unraised;
-        invalid = N.invalid;
-        asked = subst (λ (y : Sizes). y.vcpus ≤ t.flush.asked) same N.asked;
-        awaited = subst (λ (y : Sizes). y.vcpus ≤ t.flush.awaited) same N.awaited;
-      }
+  -- ---- what is brought in
 
   this_look : (o : Option HostLook) → is_some o ≡ true → o ≡ Some (record { page = page_looked o; word = word_looked o })
   this_look None some = absurd (cc some)
@@ -202,11 +205,6 @@ module _ (z : Sizes) (w : World Held) (s : Step Kind) (G : IsSound z w) (may : M
   zapping (part.Fill value) M is = absurd (cc is)
   zapping _ M is = absurd (cc is)
 
-  changing : (step : PartStep) (M : Makes h s step) → (part_task step (own_index h) t M.note).kind ≡ kind.Change → ChangesOwnPage z w s
-  changing (part.Change new_) M is = changes_page new_ M
-  changing (part.Fill value) M is = absurd (cc is)
-  changing _ M is = absurd (cc is)
-
   bringing : (step : PartStep) (M : Makes h s step) → (part_task step (own_index h) t M.note).kind ≡ kind.Bring → BringsAbsentPage z w s
   bringing part.Bring M is = brings_page M
   bringing (part.Fill value) M is = absurd (cc is)
@@ -221,10 +219,6 @@ module _ (z : Sizes) (w : World Held) (s : Step Kind) (G : IsSound z w) (may : M
 pub zaps_are_of_open_invalidations : ZapsAreOfOpenInvalidations
 zaps_are_of_open_invalidations z w s G may named =
     let M = made z w s G may kind.Zap (no_touch kind.Zap refl) named in zapping z w s G may M.step M.makes M.kind_is
-
-pub changes_are_invalidated : ChangesAreInvalidated
-changes_are_invalidated z w s G may named =
-    let M = made z w s G may kind.Change (no_touch kind.Change refl) named in changing z w s G may M.step M.makes M.kind_is
 
 pub releases_leave_nothing : ReleasesLeaveNothing
 releases_leave_nothing z w s G may named =

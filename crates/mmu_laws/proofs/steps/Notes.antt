@@ -6,6 +6,7 @@ use Rattle.std.proofs.lemmas.Bool.Decides.{nat_tests}
 use Rattle.core_views.specs.declared.kind.Kind.{Kind}
 use Rattle.core_views.specs.declared.kind.StepKind.TheVariants as kind
 use Rattle.core_views.specs.declared.place.HostPlace.TheVariants.{Look}
+use Rattle.core_views.specs.declared.place.HostRunPlace.TheVariants as run
 use Rattle.core_views.specs.declared.place.LogPlace.TheVariants.{Await}
 use Rattle.core_views.specs.declared.place.Place.{Place}
 use Rattle.core_views.specs.declared.place.Place.TheVariants as place
@@ -31,8 +32,7 @@ use Rattle.mmu_core.specs.orders.ClaimSteps.{tries_one, try_part}
 use Rattle.mmu_core.specs.lines.Forms.{note_at, part_at, RestsAt, outcome_at}
 use Rattle.mmu_core.specs.lines.PartAt.{touch_at}
 use Rattle.mmu_core.specs.lines.ScanPlaces.{claim_at, ends_with_claim}
-use Rattle.mmu_core.specs.machine.Enabled.{Enabled}
-use Rattle.mmu_core.specs.machine.Steps.{has_line, place_at, task_at}
+use Rattle.mmu_core.specs.machine.Steps.{place_at, task_at}
 use Rattle.mmu_core.specs.machine.Turns.{line_of, outcome_of}
 use Rattle.mmu_core.proofs.machine.ColumnsTell.{some_is}
 use Rattle.mmu_core.proofs.invariant.QuietKept.{touched}
@@ -42,10 +42,11 @@ use Rattle.mmu_core.proofs.orders.ClaimMade as made
 use Rattle.mmu_core.proofs.lines.ClaimPlaces.{claims_or_not}
 use Rattle.mmu_core.proofs.lines.LineClaims.{Claims, ClaimsNot, HasNote, MayEnd, ends_after, note_by, one_claim, IsLook}
 use Rattle.mmu_core.proofs.machine.Which.{is_next}
-use Rattle.mmu_laws.specs.steps.NoteLaws.{AwaitsLast, LoadsLastWord, NoteTells, LooksAtPage}
+use Rattle.mmu_laws.specs.steps.NoteLaws.{AwaitsLast, LoadsLastWord, LooksAtPage, NoteTells, NotesTellEnds, RunLookTells}
 use Rattle.mmu_laws.proofs.forms.log.AwaitNotes.{await_tells, awaits_or_not, awaits_without, may_end_awaits}
 use Rattle.mmu_laws.proofs.steps.StepLaws.{tells_part, tells_touch}
-use Rattle.mmu_laws.proofs.forms.host.LookNotes.{look_tells, looks_without}
+use Rattle.mmu_laws.proofs.forms.host.LookNotes.{looks_without}
+use Rattle.mmu_laws.proofs.forms.host_run.RunLookNotes.{each_look_tells, look_claims_none, run_look_tells}
 
 -- ---- the map of a claim
 
@@ -68,6 +69,7 @@ tries_no_load Frames z own t note e = cc e
 -- A line with which it may end claims in one map.
 claims_there : (map : FreeMap) (p : Place) → ends_with_claim map p ≡ true → is_some (claim_at map p) ≡ true
 claims_there map (place.Access p) e = absurd (cc e)
+claims_there map (place.Split p) e = absurd (cc e)
 claims_there map p e = e
 
 one_map : (p : Place) (map other : FreeMap) (begun : Bool) → claim_at map p ≡ Some begun → ends_with_claim other p ≡ true → other ≡ map
@@ -181,9 +183,10 @@ record EndsWithNone (p : Place) : Type 0 where
   no_look : IsLook p → ⊥
 
 looks_or_not : (p : Place) → IsLook p ⊎ (IsLook p → ⊥)
-looks_or_not (place.Host (Look moves)) = inl (moves, refl)
-looks_or_not (place.Host _) = inr (λ look. let e = look.1 in cc e)
-looks_or_not _ = inr (λ look. let e = look.1 in cc e)
+looks_or_not (place.Host (Look moves)) = inl tt
+looks_or_not (place.HostRun run.Look) = inl tt
+looks_or_not (place.HostRun run.LookOn) = inl tt
+looks_or_not _ = inr (λ look. look)
 
 -- So the note is 1 exactly where it ends.
 tells_exactly : (p : Place) (z : Sizes) (t : Task) (o : Outcome) (v : ℕ) → t.may_end ≡ ends_with o → EndsWithNone p → NoteTells p z (kind_of_task z t) o v
@@ -191,7 +194,7 @@ tells_exactly p z t o v is E = record {
   tells = inl is;
   last = λ L. absurd (E.no_claim L.map L.ends);
   awaits = λ A. absurd (E.no_await A.at);
-  looks = λ L. absurd (E.no_look (L.moves, L.at));
+  looks = λ L. absurd (E.no_look (subst IsLook (sym L.at) tt));
 }
 
 note_is : (s : Option PartStep) (h : Held) (note : ℕ) (touch : Task) → (s ≡ None → touch.may_end ≡ 0) → (task_by s h note touch).may_end ≡ note_by s note
@@ -238,7 +241,7 @@ module _ (p : Place) (command : Command) (h : Held) (v : ℕ) (R : RestsAt p com
       ((tells_part (step_of C) (own_index h) h.topics note).note_is ∙ N) (record {
         no_claim = λ map e. let here = subst (λ m. ends_with_claim m p ≡ true) (one_map p C.map map C.begun C.at e) e in cc (never, here);
         no_await = λ is. let none = ap (claim_at C.map) is ∙ awaits_without C.map in let at = C.at in cc (none, at);
-        no_look = λ look. let none = ap (claim_at C.map) look.1 ∙ looks_without look.0 C.map in let at = C.at in cc (none, at);
+        no_look = λ look. let none = look_claims_none p look C.map in let at = C.at in cc (none, at);
       })
 
   -- Each other step tells it, but the look at the last virtual processor, and that at a host page.
@@ -261,16 +264,18 @@ line_tells : (p : Place) (command : Command) (h : Held) (v : ℕ) → RestsAt p 
     → NoteTells p h.state.sizes (kind_of_task h.state.sizes (task_at p command h)) (outcome_at p command h v) v
 line_tells p command h v R (inl is) looks C =
     subst (λ q. NoteTells q h.state.sizes (kind_of_task h.state.sizes (task_at q command h)) (outcome_at q command h v) v) (sym is) (await_tells command h v)
-line_tells p command h v R (inr apart) (inl look) C = look_tells p look.0 look.1 command h v R
+line_tells p command h v R (inr apart) (inl look) C = each_look_tells p look command h v R
 line_tells p command h v R (inr apart) (inr never) (inl C) =
     subst (λ (s : Option PartStep). NoteTells p h.state.sizes (kind_of_task h.state.sizes (task_by s h (note_at p command h) (touch_at command h)))
     (outcome_at p command h v) v) (sym C.step) (claim_tells p command h v R C (ends_with_claim C.map p) refl C.note)
 line_tells p command h v R (inr apart) (inr never) (inr N) = other_tells p command h v R N apart never
 
-pub notes_tell_ends : (h : Held) (k : Kind) (v : ℕ) → Enabled h k → has_line h ≡ true → NoteTells (place_at h.state.place h) h.state.sizes k (outcome_of h v) v
+pub notes_tell_ends : NotesTellEnds
 notes_tell_ends h k v enabled has =
     let N = is_next h k enabled has in
     let p : Place = place_at h.state.place h in
     let command : Command = (line_of h).command in
-    subst (λ (x : Kind). NoteTells p h.state.sizes x (outcome_of h v) v) (sym N.is)
-    (line_tells p command h v N.rests.at (awaits_or_not p) (looks_or_not p) (claims_or_not p command h v N.rests.at))
+    subst (λ (x : Kind). NoteTells p h.state.sizes x (outcome_of h v) v × RunLookTells h x v) (sym N.is) (
+      line_tells p command h v N.rests.at (awaits_or_not p) (looks_or_not p) (claims_or_not p command h v N.rests.at),
+      run_look_tells h v p command N.rests.at,
+    )

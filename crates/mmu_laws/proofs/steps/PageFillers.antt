@@ -1,4 +1,4 @@
--- The lines that fill pages: a fault fills a table with absent entries, and the manager a slot set.
+-- The lines that fill pages: a fault fills a table with absent entries or a leaf's children, a split with these, and the manager a slot set.
 use Rattle.std.proofs.Common.{◌≡◌, ◌+◌, ◌*◌, ◌-◌, ◌^◌, ◌<◌, ℕ, List, [], ◌++◌, refl, subst, ap, ◌∙◌, arith}
 use Rattle.std.specs.Prelude.{Bool, true, false, ◌&&◌, ◌||◌, ◌==◌, nat_le, nat_lt, Option, Some, None, if◌then◌else◌, unwrap_or}
 use Rattle.std.proofs.lemmas.Bool.Decides.{nat_tests}
@@ -8,11 +8,12 @@ use Rattle.core_views.specs.declared.place.FaultPlace.TheVariants as fault
 use Rattle.core_views.specs.declared.place.Place.{Place}
 use Rattle.core_views.specs.declared.place.Place.TheVariants as place
 use Rattle.core_views.specs.declared.place.SlotChangePlace.TheVariants as slot_change
+use Rattle.core_views.specs.declared.place.SplitPlace.TheVariants as split
 use Rattle.core_views.specs.declared.sizes.Sizes.{Sizes}
 use Rattle.core_views.specs.declared.topics.OwnedPage.{OwnedPage}
 use Rattle.core_views.specs.declared.topics.Topics.{Topics}
 use Rattle.core_views.specs.declared.trace.Command.{Command}
-use Rattle.core_views.specs.declared.trace.Command.TheVariants.{Access}
+use Rattle.core_views.specs.declared.trace.Command.TheVariants.{Access, Split}
 use Rattle.core_views.specs.declared.trace.Op.{Op}
 use Rattle.core_views.specs.Held.{Held}
 use Rattle.core_views.specs.SlotCommands.{slots_after}
@@ -36,14 +37,14 @@ use Rattle.mmu_laws.proofs.steps.FilledPages.{Filler, FillsOne, at_fill, filled_
 use Rattle.spte_words.specs.Entries.{word_below}
 
 -- what a step makes where this hand is the actor's, and what it tells
-abbrev turned_as : Held → ℕ → View → View
+abbrev pub turned_as : Held → ℕ → View → View
 turned_as h a v = record {
   words = words_after (task_at (place_at h.state.place h) (line_at h.state.place h).command h) v.words;
   hand = upd v.hand a (hand_after (line_at h.state.place h) (line_at h.state.place h).command (place_at h.state.place h) h
       (answer_in (task_at (place_at h.state.place h) (line_at h.state.place h).command h) v.words));
 }
 
-abbrev tells_as : Held → (Area → ℕ → ℕ) → List Event
+abbrev pub tells_as : Held → (Area → ℕ → ℕ) → List Event
 tells_as h words =
     let x : ℕ = answer_in (task_at (place_at h.state.place h) (line_at h.state.place h).command h) words in
     told h.state.actor (beginning h.state.place (line_at h.state.place h)
@@ -64,7 +65,7 @@ counted_at p command t steps h = record {
   answers = h.answers;
 }
 
-one_step_more : (steps : ℕ) → steps < 2 ^ 64 - 1 → one_more steps ≡ steps + 1
+pub one_step_more : (steps : ℕ) → steps < 2 ^ 64 - 1 → one_more steps ≡ steps + 1
 one_step_more steps few = ap (λ (b : Bool). if b then steps + 1 else steps) less
   where
     less : nat_lt steps (2 ^ 64 - 1) ≡ true
@@ -117,23 +118,23 @@ abbrev fault_at : Bool → Place
 fault_at more = place.Access (access.Fault (if more then fault.Fill else fault.Role))
 
 -- the words of the page: absent, or the children of the leaf in whose place it is to be linked
-abbrev fault_word : Held → ℕ → ℕ
-fault_word h j = word_below h.topics.walk.level h.topics.walk.entry j
+abbrev child_word : Held → ℕ → ℕ
+child_word h j = word_below h.topics.walk.level h.topics.walk.entry j
 
 abbrev fault_filler : ℕ → ℕ → Op → OwnedPage → Held → Filler
-fault_filler gfn word op o h = record { command = Access gfn word op; place = fault_at; word = fault_word h; owned = o }
+fault_filler gfn word op o h = record { command = Access gfn word op; place = fault_at; word = child_word h; owned = o }
 
 fault_makes : (gfn word : ℕ) (op : Op) (v : View) (a steps : ℕ) (o : OwnedPage) (h : Held) → o.filled < 512 → o.page < h.state.sizes.pool
     → steps < 2 ^ 64 - 1
     → ◌≡◌ {A = View} (turned_as (at_fill (fault_at true) (Access gfn word op) o steps h) a v) (record {
-      words = put v.words area.Pool (pool_index o.page o.filled) (fault_word h o.filled);
-      hand = upd v.hand a (at_fill (fault_at (nat_lt (o.filled + 1) 512)) (Access gfn word op) (filled_with (fault_word h) 1 o) (steps + 1) h);
+      words = put v.words area.Pool (pool_index o.page o.filled) (child_word h o.filled);
+      hand = upd v.hand a (at_fill (fault_at (nat_lt (o.filled + 1) 512)) (Access gfn word op) (filled_with (child_word h) 1 o) (steps + 1) h);
     })
 unfolding flushed topics_after
 fault_makes gfn word op v a steps o h few page count = λ s. record {
-  words = put v.words area.Pool (pool_index o.page o.filled) (fault_word h o.filled);
+  words = put v.words area.Pool (pool_index o.page o.filled) (child_word h o.filled);
   hand = upd v.hand a (counted_at (fault_at (nat_lt (o.filled + 1) 512)) (Access gfn word op)
-      (topics_filled h.state.sizes (fault_word h) o h.topics few page s) (one_step_more steps count s) h);
+      (topics_filled h.state.sizes (child_word h) o h.topics few page s) (one_step_more steps count s) h);
 }
 
 fault_tells : (gfn word : ℕ) (op : Op) (o : OwnedPage) (steps : ℕ) (h : Held) (words : Area → ℕ → ℕ)
@@ -144,6 +145,37 @@ fault_fills : (gfn word : ℕ) (op : Op) (o : OwnedPage) (h : Held) → FillsOne
 fault_fills gfn word op o h = record {
   makes = λ v a steps o is few page count. ap (λ held. turned_as held a v) is ∙ fault_makes gfn word op v a steps o h few page count;
   tells_none = λ v a steps o is. ap (λ held. tells_as held v.words) is ∙ fault_tells gfn word op o steps h v.words;
+}
+
+-- ---- a split
+
+abbrev split_at : Bool → Place
+split_at more = place.Split (if more then split.Fill else split.Role)
+
+abbrev split_filler : ℕ → OwnedPage → Held → Filler
+split_filler gfn o h = record { command = Split gfn; place = split_at; word = child_word h; owned = o }
+
+split_makes : (gfn : ℕ) (v : View) (a steps : ℕ) (o : OwnedPage) (h : Held) → o.filled < 512 → o.page < h.state.sizes.pool
+    → steps < 2 ^ 64 - 1
+    → ◌≡◌ {A = View} (turned_as (at_fill (split_at true) (Split gfn) o steps h) a v) (record {
+      words = put v.words area.Pool (pool_index o.page o.filled) (child_word h o.filled);
+      hand = upd v.hand a (at_fill (split_at (nat_lt (o.filled + 1) 512)) (Split gfn) (filled_with (child_word h) 1 o) (steps + 1) h);
+    })
+unfolding flushed topics_after
+split_makes gfn v a steps o h few page count = λ s. record {
+  words = put v.words area.Pool (pool_index o.page o.filled) (child_word h o.filled);
+  hand = upd v.hand a (counted_at (split_at (nat_lt (o.filled + 1) 512)) (Split gfn)
+      (topics_filled h.state.sizes (child_word h) o h.topics few page s) (one_step_more steps count s) h);
+}
+
+split_tells : (gfn : ℕ) (o : OwnedPage) (steps : ℕ) (h : Held) (words : Area → ℕ → ℕ)
+    → tells_as (at_fill (split_at true) (Split gfn) o steps h) words ≡ []
+split_tells gfn o steps h words = refl
+
+split_fills : (gfn : ℕ) (o : OwnedPage) (h : Held) → FillsOne (split_filler gfn o h) h
+split_fills gfn o h = record {
+  makes = λ v a steps o is few page count. ap (λ held. turned_as held a v) is ∙ split_makes gfn v a steps o h few page count;
+  tells_none = λ v a steps o is. ap (λ held. tells_as held v.words) is ∙ split_tells gfn o steps h v.words;
 }
 
 -- ---- a slot line
@@ -183,6 +215,7 @@ set_fills command o h = record {
 -- how a line at this place with this command fills this page, where it does
 abbrev pub filler_at : Place → Command → Option OwnedPage → Held → Option Filler
 filler_at (place.Access (access.Fault fault.Fill)) (Access gfn word op) (Some o) h = Some (fault_filler gfn word op o h)
+filler_at (place.Split split.Fill) (Split gfn) (Some o) h = Some (split_filler gfn o h)
 filler_at (place.SlotChange slot_change.Fill) command (Some o) h = Some (set_filler command o h)
 filler_at _ _ _ _ = None
 
@@ -208,6 +241,9 @@ pub filler_fills : (p : Place) (command : Command) (owned : Option OwnedPage) (h
 filler_fills (place.Access (access.Fault fault.Fill)) (Access gfn word op) (Some o) h F place_is command_is owned_is e =
     subst (λ G. Fills G h) (ap (λ x. unwrap_or x F) e)
     (record { is_there = hand_is (fault_at true) (Access gfn word op) o h place_is command_is owned_is; fills_one = fault_fills gfn word op o h })
+filler_fills (place.Split split.Fill) (Split gfn) (Some o) h F place_is command_is owned_is e =
+    subst (λ G. Fills G h) (ap (λ x. unwrap_or x F) e)
+    (record { is_there = hand_is (split_at true) (Split gfn) o h place_is command_is owned_is; fills_one = split_fills gfn o h })
 filler_fills (place.SlotChange slot_change.Fill) command (Some o) h F place_is command_is owned_is e =
     subst (λ G. Fills G h) (ap (λ x. unwrap_or x F) e)
     (record { is_there = hand_is (set_at true) command o h place_is command_is owned_is; fills_one = set_fills command o h })

@@ -3,7 +3,7 @@ use Rattle.std.proofs.Common.{◌+◌, ◌*◌, ◌<◌, ◌≤◌, ℕ, arith}
 use Rattle.std.proofs.Math.Nat.{div-lt_iff_lt-mul}
 use Rattle.std.specs.Prelude.{true, false}
 use Rattle.core_views.specs.declared.sizes.Sizes.{Sizes}
-use Rattle.core_views.specs.declared.trace.Command.TheVariants.{Access, ChangeHost, SetLog, GetLog, ClearLog}
+use Rattle.core_views.specs.declared.trace.Command.TheVariants.{Access, ChangeHost, ChangeRun, SetLog, GetLog, ClearLog}
 use Rattle.spte_words.specs.Areas.{words_of_bits}
 use Rattle.mmu_laws.specs.turns.FewSteps.{FewSteps, long_bound}
 
@@ -25,6 +25,7 @@ long z =
 pub few_steps : FewSteps
 few_steps z (Access gfn word op) = omega arith
 few_steps z (ChangeHost page change) = omega (arith, words_few z.frames)
+few_steps z (ChangeRun page change) = omega arith
 few_steps z (SetLog id true) = long z
 few_steps z (SetLog id false) = omega (arith, words_few z.pool)
 few_steps z (GetLog id) = omega (arith, long z)

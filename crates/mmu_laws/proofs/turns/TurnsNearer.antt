@@ -56,7 +56,7 @@ use Rattle.part_steps.specs.PartBounds.{PartRests}
 use Rattle.core_views.specs.declared.topics.Topics.{Topics}
 use Rattle.mmu_core.proofs.machine.Which.{is_next}
 use Rattle.mmu_core.proofs.machine.Worlds.{Takes, good_step, takes_line}
-use Rattle.mmu_core.proofs.held.OwnPages.{OwnWords, own_words}
+use Rattle.mmu_core.proofs.held.NextSeen.{SeesOwn, sees_own}
 
 -- ---- a stay after an installed entry finds it
 
@@ -107,9 +107,9 @@ anew_where_it_stands _ y slots c anew = anew
 
 -- ---- nearer
 
--- So each step comes nearer that is no delay, where what its hand has looked up of its actor's own pages is their words, as in every sound world.
+-- So each step comes nearer that is no delay, where what its hand has seen of its actor's own pages is their words, as in every sound world.
 pub place_nearer : (p : Place) (c : Command) (z : Sizes) (h : Held) (words : Area → ℕ → ℕ) → IsUnderWay p → IsCommandFor z h.state.actor c
-    → PartRests h → RestsAt p c h → KnowsPart p c h → RetiresPart p h.topics → SlotFits p c h → OwnWords h (words area.Host)
+    → PartRests h → RestsAt p c h → KnowsPart p c h → RetiresPart p h.topics → SlotFits p c h → SeesOwn h (words area.Host)
     → delays_at p c h (answer_in (task_at p c h) words) ≡ false
     → Nearer (outcome_at p c h (answer_in (task_at p c h) words)) c h.state.sizes (topics_at p c h words) (steps_left p c h.state.sizes h.topics)
 place_nearer p c z h words begun may rests R K left fits looks on =
@@ -178,7 +178,7 @@ module _ (z : Sizes) (w : World Held) (s : Step Kind) (G : IsSound z w) (may : M
       (part_rests_at z (view z w) a G.holds G.topics there)
       (is_next h s.kind may.enabled has).rests.at (knows_at z (view z w) a G.holds there S.left)
       (step_leaves z (view z w) a line line.command stood S G.holds) (slot_fits z (view z w) a line stood S G.holds)
-      (own_words z (view z w) a G.topics there sizes (G.holds.lines a there).index) on
+      (sees_own z (view z w) a G.topics there sizes (G.holds.lines a there).index) on
 
   -- Where it neither waits nor begins anew, and no stay misses with it, its line has fewer steps left after it.
   pub finds_nearer : line_waits stood line.command h (answered mmu w s.kind) ≡ false → begins_anew stood ≡ false

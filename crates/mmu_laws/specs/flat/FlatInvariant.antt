@@ -1,6 +1,4 @@
 -- The words and hands as flat guest memory: the facts that the words stand for, and the lines that the hands have under way.
-use Rattle.core_views.specs.declared.place.HostPlace.{HostPlace}
-use Rattle.core_views.specs.declared.place.HostPlace.TheVariants as host_at
 use Rattle.std.specs.Prelude.{◌≡◌, ◌<◌, ◌==◌, ℕ, All, Option, Some, true, false, not}
 use Rattle.core_views.specs.declared.place.AccessPlace.{AccessPlace}
 use Rattle.core_views.specs.declared.place.AccessPlace.TheVariants as access
@@ -16,15 +14,14 @@ use Rattle.core_views.specs.declared.topics.HostLook.{HostLook}
 use Rattle.core_views.specs.declared.topics.SlotSearch.{SlotSearch}
 use Rattle.core_views.specs.declared.topics.Topics.{Topics}
 use Rattle.core_views.specs.declared.trace.Command.{Command}
-use Rattle.core_views.specs.declared.trace.Command.TheVariants.{Access, ChangeHost}
+use Rattle.core_views.specs.declared.trace.Command.TheVariants.{Access, ChangeHost, ChangeRun, Split}
 use Rattle.core_views.specs.declared.trace.Line.{Line}
 use Rattle.core_views.specs.declared.trace.Op.{Op}
-use Rattle.core_views.specs.Flat.{Facts, Flat, LineUnderWay, Notes, Fresh, HasAccessed, HasChangedHost, Idle}
+use Rattle.core_views.specs.Flat.{Facts, Flat, LineUnderWay, Notes, Fresh, HasAccessed, Idle}
 use Rattle.core_views.specs.Held.{Held}
 use Rattle.core_views.specs.Host.{is_denied}
 use Rattle.core_views.specs.Migrations.{is_paused}
 use Rattle.core_views.specs.declared.migration.Migration.TheVariants.{Unstarted}
-use Rattle.core_views.specs.HostChanges.{Agree}
 use Rattle.core_views.specs.Lawful.{SawForbidden, SawNoPage, SawPage}
 use Rattle.core_views.specs.Sizes.{actors_of}
 use Rattle.core_views.specs.Slots.{Slots, contains, page_behind}
@@ -34,10 +31,11 @@ use Rattle.spte_words.specs.declared.area.Area.TheVariants as area
 use Rattle.part_steps.specs.SlotWords.{memory_slots_below, page_of, slots_below}
 use Rattle.part_steps.specs.Tasks.{map_of}
 use Rattle.mmu_core.specs.machine.View.{View}
-use Rattle.core_views.specs.declared.host.HostEntry.{HostEntry}
 use Rattle.mmu_core.specs.forms.host.HostSteps.{entry_of}
 use Rattle.part_steps.specs.PartTasks.{page_looked, word_looked}
 pub use Rattle.mmu_laws.specs.flat.LineStages.{SlotChangeUnder, changed_stage}
+pub use Rattle.mmu_laws.specs.forms.host.HostStages.{HasNoted, HostUnder}
+pub use Rattle.mmu_laws.specs.forms.host_run.HostRunStages.{HostRunUnder}
 pub use Rattle.mmu_laws.specs.forms.log.LogStages.{HasBegunToRead, LogUnder}
 
 -- The slots are the live ones of the published set, in this page, each with its dirty log or without; each host page is mapped as its word says;
@@ -109,26 +107,15 @@ AccessUnder pool (access.Fault p) gfn op t u = Runs u × NotedAt pool p gfn op t
 AccessUnder pool (access.Leave (leaving.Reached frame value)) gfn op t u = u.stage ≡ HasAccessed frame value
 AccessUnder pool _ gfn op t u = Runs u
 
--- The line has noted its page, which is small, as its word was when it was looked at, but that the page may have been brought in since.
-abbrev pub HasNoted : ℕ → Topics → Notes → Type 0
-HasNoted page t notes = (seen : HostEntry) × (notes.host page ≡ Some seen) × Agree seen (entry_of (word_looked t.host)) × (seen.level ≡ 1)
-
--- A host line has done nothing yet, up to its change, and from its first step on it has looked at its page, which is small, and which its word maps so, but
--- that the page may have been brought in since; after it, it has changed the page, to the word that it has put.
-abbrev pub HostUnder : HostPlace → ℕ → Topics → LineUnderWay → Type 0
-HostUnder (host_at.Look moving) page t u = u.stage ≡ Fresh
-HostUnder (host_at.End p) page t u = u.stage ≡ HasChangedHost (entry_of (word_looked t.host))
-HostUnder host_at.Watch page t u = u.stage ≡ HasChangedHost (entry_of (word_looked t.host))
-HostUnder host_at.Free page t u = u.stage ≡ HasChangedHost (entry_of (word_looked t.host))
-HostUnder _ page t u = (u.stage ≡ Fresh) × HasNoted page t u.notes
-
--- The line under way is this one, with this command, at this place, and its actor holds these topics.
+-- The line under way is this one, with this command, at this place, and its actor holds these topics. A split does nothing that flat memory has.
 abbrev pub UnderAt : Sizes → (ℕ → ℕ) → Place → Line → Command → Topics → LineUnderWay → Type 0
 UnderAt z pool place.Between line command t u = u.stage ≡ Idle
 UnderAt z pool (place.Access p) line (Access gfn word op) t u = (u.line ≡ line) × AccessUnder pool p gfn op t u
 UnderAt z pool (place.SlotChange p) line command t u = (u.line ≡ line) × SlotChangeUnder p z command u
 UnderAt z pool (place.Host p) line (ChangeHost page change) t u = (u.line ≡ line) × HostUnder p page t u
+UnderAt z pool (place.HostRun p) line (ChangeRun page change) t u = (u.line ≡ line) × HostRunUnder p page change t u
 UnderAt z pool (place.Log p) line command t u = (u.line ≡ line) × LogUnder p command u
+UnderAt z pool (place.Split p) line (Split gfn) t u = (u.line ≡ line) × (u.stage ≡ Fresh)
 UnderAt z pool _ line command t u = ⊥
 
 -- The hand's line under way is the flat one.

@@ -1,11 +1,12 @@
 -- Which steps change the sequence number of invalidations, and how many are open (kvm_main.c, mmu_invalidate_seq and mmu_invalidate_in_progress); which
 -- leaves are zapped (tdp_mmu.c, kvm_tdp_mmu_unmap_gfn_range); which host words are changed within them, or brought in; and what is done where the lock is given
 -- back.
-use Rattle.std.specs.Prelude.{◌≡◌, ◌⊎◌, ◌+◌, ◌-◌, ◌≤◌, ℕ, true, false, if◌then◌else◌, Some}
+use Rattle.std.specs.Prelude.{◌≡◌, ◌⊎◌, ◌+◌, ◌-◌, ◌<◌, ◌≤◌, ℕ, true, false, if◌then◌else◌, Some}
 use Rattle.core_views.specs.declared.kind.Kind.{Kind}
 use Rattle.core_views.specs.declared.kind.StepKind.TheVariants as kind
 use Rattle.core_views.specs.declared.sizes.Sizes.{Sizes}
 use Rattle.core_views.specs.declared.topics.Hold.TheVariants.{Exclusive}
+use Rattle.core_views.specs.declared.topics.PageRun.{PageRun}
 use Rattle.core_views.specs.declared.topics.Stay.TheVariants.{Section}
 use Rattle.core_views.specs.declared.topics.Topics.{Topics}
 use Rattle.core_views.specs.Held.{Held, has_line}
@@ -14,7 +15,7 @@ use Rattle.core_views.specs.Kinds.{kind_named}
 use Rattle.spte_words.specs.declared.area.Area.TheVariants as area
 use Rattle.spte_words.specs.declared.spte_kind.SpteKind.TheVariants.{Leaf}
 use Rattle.spte_words.specs.Areas.{place, pool_index}
-use Rattle.spte_words.specs.Entries.{kind_of}
+use Rattle.spte_words.specs.Entries.{kind_of, level_span}
 use Rattle.spte_words.specs.HostWords.{host_present, with_presence}
 use Rattle.part_steps.specs.InvalidationHoldings.{MayCount, MaySetEnd, MaySetStart}
 use Rattle.part_steps.specs.LockHoldings.{MayRelease}
@@ -28,7 +29,7 @@ use Rattle.mmu_core.specs.invariant.Laws.{IsSound}
 use Rattle.mmu_core.specs.machine.Enabled.{mmu}
 use Rattle.mmu_core.specs.machine.Machine.{May, Step, World, effect, hand_in}
 use Rattle.mmu_core.specs.machine.View.{word_in}
-use Rattle.part_steps.specs.InvalidationRange.{IsOnRun}
+use Rattle.part_steps.specs.PageRuns.{IsOnRun, page_next}
 
 -- what the actor holds that makes the step
 abbrev pub held_by : World Held → Step Kind → Topics
@@ -95,15 +96,19 @@ abbrev pub ZapsAreOfOpenInvalidations : Type 0
 ZapsAreOfOpenInvalidations =
     (z : Sizes) (w : World Held) (s : Step Kind) → IsSound z w → May mmu w s → kind_named s.kind.code ≡ kind.Zap → ZapsOwnFrame z w s
 
--- The step is on the host word of a page of its actor's own, and an invalidation of the actor's own is open of a run that has this page, with no number raised
--- for it yet; each virtual processor was asked for a flush, and awaited.
+-- The step is on the host word of a page of its actor's own, and an invalidation of the actor's own is open, with no number raised for it yet, of a run that
+-- has this page: it is the first of those that aren't changed yet. Each virtual processor was asked for a flush, and awaited.
 pub record ChangesOwnPage (z : Sizes) (w : World Held) (s : Step Kind) : Type 0 where
   pub page : ℕ
   pub on : s.kind.word ≡ place (map_of z) area.Host page
   pub own_ : is_own z (hand_in mmu w s.actor).state.actor page ≡ true
   pub opened : (held_by w s).invalidations.opened ≡ true
   pub unraised : (held_by w s).invalidations.raised ≡ false
-  pub invalid : IsOnRun page (held_by w s).invalidations.own.pages
+  pub run : PageRun
+  pub invalid : (held_by w s).invalidations.own.pages ≡ Some run
+  pub on_run : IsOnRun page (Some run)
+  pub next : page ≡ page_next run
+  pub left : run.changed < level_span run.level
   pub asked : z.vcpus ≤ (held_by w s).flush.asked
   pub awaited : z.vcpus ≤ (held_by w s).flush.awaited
 

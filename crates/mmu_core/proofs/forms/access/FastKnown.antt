@@ -24,12 +24,13 @@ use Rattle.part_steps.specs.WalkTopics.{gone_down, linked_page}
 use Rattle.mmu_core.proofs.forms.access.FaultSame.{same_found, same_inside}
 use Rattle.mmu_core.proofs.forms.access.LookKnown.{none_found, not_held, not_last, not_whole, one_further}
 use Rattle.mmu_core.proofs.forms.access.WalkKnown.{above_lowest, gone_over, root_over, saw_it}
+use Rattle.core_views.specs.declared.topics.HostRow.{HostRow}
 
 -- the search
-pub fast_slots_known : (z : Sizes) (gfn : ℕ) (write b : Bool) (t : Topics) (v : ℕ) → b ≡ true → InSection t → t.hold ≡ Loose
-    → FaultKnows (FastFind true) z gfn write (record t { search = at_set b t.search v })
-fast_slots_known z gfn write true t v holds I loose = (same_inside t _ refl refl refl I, loose, λ _. (refl, omega arith))
-fast_slots_known z gfn write false t v holds I loose = absurd (cc holds)
+pub fast_slots_known : (z : Sizes) (gfn : ℕ) (write b : Bool) (t : Topics) (row : HostRow) (v : ℕ) → b ≡ true → InSection t → t.hold ≡ Loose
+    → FaultKnows (FastFind true) z gfn write (record t { search = at_set b t.search v; row = row })
+fast_slots_known z gfn write true t row v holds I loose = (same_inside t _ refl refl refl I, loose, λ _. (refl, omega arith))
+fast_slots_known z gfn write false t row v holds I loose = absurd (cc holds)
 
 goes_on : (b : Bool) (z : Sizes) (gfn : ℕ) (write : Bool) (u : Topics) → (u.search.id == 32) ≡ b → u.search.id ≤ 32 → InSection u → u.hold ≡ Loose
     → HoldsSet u → (b ≡ true → FoundSlot gfn u → ⊥) → FaultKnows (if b then End (NotFast 0) else FastFind true) z gfn write u
@@ -55,10 +56,13 @@ find_known _ z gfn write t v low I loose set =
     goes_on (t.search.id == 32) z gfn write _ refl (omega arith) (same_inside t _ refl refl refl I) loose set
     (λ last. absurd (not_last t.search.id low last))
 
-pub fast_slot_known : (z : Sizes) (gfn : ℕ) (write b : Bool) (t : Topics) (v : ℕ) → b ≡ true → t.search.id ≤ 31 → InSection t → t.hold ≡ Loose → HoldsSet t
-    → FaultKnows (fast_find_next gfn t.search.next (searched t.search v)) z gfn write (record t { search = if b then searched t.search v else t.search })
-fast_slot_known z gfn write true t v is low I loose set = find_known t.search.next z gfn write t v low I loose set
-fast_slot_known z gfn write false t v is low I loose set = absurd (cc is)
+pub fast_slot_known : (z : Sizes) (gfn : ℕ) (write b : Bool) (t : Topics) (row : HostRow) (v : ℕ) → b ≡ true → t.search.id ≤ 31 → InSection t
+    → t.hold ≡ Loose → HoldsSet t
+    → FaultKnows (fast_find_next gfn t.search.next (searched t.search v)) z gfn write
+    (record t { search = if b then searched t.search v else t.search; row = row })
+fast_slot_known z gfn write true t row v is low I loose set =
+    find_known t.search.next z gfn write (record t { row = row }) v low (same_inside t _ refl refl refl I) loose set
+fast_slot_known z gfn write false t row v is low I loose set = absurd (cc is)
 
 -- the walk
 same_fast : (gfn : ℕ) (t u : Topics) → u.stay ≡ t.stay → u.owned ≡ t.owned → u.owed ≡ t.owed → u.hold ≡ t.hold → u.search ≡ t.search → FastFound gfn t

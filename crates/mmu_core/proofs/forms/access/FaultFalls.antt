@@ -215,7 +215,7 @@ pub fault_falls : (p : FaultPlace) (h : Held) (gfn v : ℕ) (write : Bool) → g
 fault_falls (Find true) h gfn v write small R K goes =
     let set = K.1 refl in
     slot_falls (is_some h.topics.search.set) h.state.sizes (entering_left h.state.sizes + 8) (found_next write (searched h.topics.search v)) (End Mmio)
-    (Find true) gfn h.topics v (find_leads h.state.sizes (write && (searched h.topics.search v).slot.read_only)) set.0 set.1
+    (Find true) gfn h.topics _ v (find_leads h.state.sizes (write && (searched h.topics.search v).slot.read_only)) set.0 set.1
 fault_falls (Find false) h gfn v write small R K goes = omega arith
 fault_falls Host h gfn v write small R K goes =
     host_falls (write && not (host_allows_write v)) (host_present v) h.state.sizes (part_topics (fault_part Host gfn h.topics) h.topics v) K.0.loose
@@ -244,7 +244,7 @@ fault_falls (End e) h gfn v write small R K goes = end_falls e h.state.sizes _
 fault_falls (FastFind true) h gfn v write small R K goes =
     let set = K.2 refl in
     slot_falls (is_some h.topics.search.set) h.state.sizes (entering_left h.state.sizes + 146) (FastWalk false) (End (NotFast 0)) (FastFind true) gfn
-    h.topics v (fast_leads h.state.sizes) set.0 set.1
+    h.topics _ v (fast_leads h.state.sizes) set.0 set.1
 fault_falls (FastFind false) h gfn v write small R K goes = omega arith
 fault_falls (FastWalk true) h gfn v write small R K goes =
     let over = K.1 refl in fast_walk_falls (kind_of h.topics.walk.level v) h.state.sizes gfn h.topics v refl over.there

@@ -109,7 +109,7 @@ walk_known entry_kind.Frozen z gfn write t v is most E none O = (
 )
 
 -- The page that a claim wins is for the entry that the walk has loaded.
-same_walk : (walk : TableWalk) → (walk.level == walk.level && walk.entry == walk.entry) ≡ true
+pub same_walk : (walk : TableWalk) → (walk.level == walk.level && walk.entry == walk.entry) ≡ true
 same_walk walk =
     let level : (walk.level == walk.level) ≡ true = grind (arith, nat_tests) in
     let entry : (walk.entry == walk.entry) ≡ true = grind (arith, nat_tests) in
@@ -189,9 +189,9 @@ pub fault_known : (p : FaultPlace) (h : Held) (gfn v : ℕ) (write : Bool) → g
 fault_known Begin h gfn v write small R K A = (record { section = refl; owns_none = K.owns_none; owes_none = K.owes_none }, K.loose)
 fault_known Snapshot h gfn v write small R K A = (snapshot_known h.topics v K.0 K.1, λ e. absurd (cc e))
 fault_known (Find true) h gfn v write small R K A =
-    let set = K.1 refl in slot_known h.state.sizes gfn write (is_some h.topics.search.set) h.topics v set.0 set.1 K.0 set.0
+    let set = K.1 refl in slot_known h.state.sizes gfn write (is_some h.topics.search.set) h.topics _ v set.0 set.1 K.0 set.0
 fault_known (Find false) h gfn v write small R K A =
-    slots_known h.state.sizes gfn write (may_search h.topics.stay h.topics.hold) h.topics v
+    slots_known h.state.sizes gfn write (may_search h.topics.stay h.topics.hold) h.topics _ v
     (ap (λ (s : Stay). may_search s h.topics.hold) K.0.inside.section) K.0
 fault_known Host h gfn v write small R K A =
     host_known (write && not (host_allows_write v)) (host_present v) h.state.sizes gfn write h.topics v refl refl K.0 K.1 K.2
@@ -221,9 +221,9 @@ fault_known (End e) h gfn v write small R K A =
 fault_known FastBegin h gfn v write small R K A =
     (record { section = refl; owns_none = K.owns_none; owes_none = K.owes_none }, K.loose, λ e. absurd (cc e))
 fault_known (FastFind true) h gfn v write small R K A =
-    let set = K.2 refl in fast_slot_known h.state.sizes gfn write (is_some h.topics.search.set) h.topics v set.0 set.1 K.0 K.1 set.0
+    let set = K.2 refl in fast_slot_known h.state.sizes gfn write (is_some h.topics.search.set) h.topics _ v set.0 set.1 K.0 K.1 set.0
 fault_known (FastFind false) h gfn v write small R K A =
-    fast_slots_known h.state.sizes gfn write (may_search h.topics.stay h.topics.hold) h.topics v
+    fast_slots_known h.state.sizes gfn write (may_search h.topics.stay h.topics.hold) h.topics _ v
     (ap (λ (s : Stay). may_search s h.topics.hold) K.0.section) K.0 K.1
 fault_known (FastWalk true) h gfn v write small R K A =
     fast_walk_known (kind_of h.topics.walk.level v) h.state.sizes gfn write h.topics v refl R.level K.0 (K.1 refl)

@@ -205,11 +205,11 @@ pub claim_keeps : (map : FreeMap) (begun : Bool) (claim : MapClaim) (scan : Type
 claim_keeps map true claim scan S = Keeps (claim_part map true claim) (S refl) (claim_gives_none map true claim)
 claim_keeps map false claim scan S = Begins
 
-one_maps_not : (map : FreeMap) (b : Bool) (p q : PartStep) → maps map p ≡ false → maps map q ≡ false → maps map (if b then p else q) ≡ false
+pub one_maps_not : (map : FreeMap) (b : Bool) (p q : PartStep) → maps map p ≡ false → maps map q ≡ false → maps map (if b then p else q) ≡ false
 one_maps_not map true p q one other = one
 one_maps_not map false p q one other = other
 
-share_maps_not : (map : FreeMap) (hold : Hold) → maps map (share_part hold) ≡ false
+pub share_maps_not : (map : FreeMap) (hold : Hold) → maps map (share_part hold) ≡ false
 share_maps_not map (Owing word) = refl
 share_maps_not map _ = refl
 

@@ -1,5 +1,4 @@
--- Which leaf a fault puts, worked out for a few slots and host words: no line makes a run of host pages large yet, so no closed run comes here. Guest frame 700
--- is the 189th of the run of 512 from guest frame 512.
+-- Which leaf a fault puts, worked out for a few slots and host words. Guest frame 700 is the 189th of the run of 512 from guest frame 512.
 use Rattle.std.specs.Prelude.{◌≡◌, ◌+◌, ◌*◌, ℕ, Bool, true, false, Some}
 use Rattle.std.proofs.Common.{refl}
 use Rattle.core_views.specs.declared.place.FaultPlace.TheVariants.{Claim, Leaf}

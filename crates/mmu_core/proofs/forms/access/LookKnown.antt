@@ -37,6 +37,8 @@ use Rattle.part_steps.specs.ControlTopics.{at_set, count_checked, range_checked,
 use Rattle.mmu_core.proofs.orders.ShareMade.{ShareMade}
 use Rattle.mmu_core.proofs.orders.ShareMade as share
 use Rattle.mmu_core.proofs.forms.access.FaultSame.{both, ends_same, is_not, not_not, not_then, over_it, same_looked, same_sharing, same_without, whole_anew}
+use Rattle.core_views.specs.declared.topics.HostRow.{HostRow}
+use Rattle.part_steps.specs.PageRuns.{one_look}
 
 -- the section, and the snapshot
 without_lock : (t : Topics) (v : ℕ) → InSection t → t.hold ≡ Loose → WithoutLock (sequenced true t v)
@@ -46,10 +48,10 @@ pub snapshot_known : (t : Topics) (v : ℕ) → InSection t → t.hold ≡ Loose
 snapshot_known t v I loose = subst (λ (x : Hold). WithoutLock (sequenced (is_loose x) t v)) (sym loose) (without_lock t v I loose)
 
 -- the search
-pub slots_known : (z : Sizes) (gfn : ℕ) (write b : Bool) (t : Topics) (v : ℕ) → b ≡ true → WithoutLock t
-    → FaultKnows (Find true) z gfn write (record t { search = at_set b t.search v })
-slots_known z gfn write true t v holds W = (same_without t _ refl refl refl refl refl W, λ _. (refl, omega arith))
-slots_known z gfn write false t v holds W = absurd (cc holds)
+pub slots_known : (z : Sizes) (gfn : ℕ) (write b : Bool) (t : Topics) (row : HostRow) (v : ℕ) → b ≡ true → WithoutLock t
+    → FaultKnows (Find true) z gfn write (record t { search = at_set b t.search v; row = row })
+slots_known z gfn write true t row v holds W = (same_without t _ refl refl refl refl refl W, λ _. (refl, omega arith))
+slots_known z gfn write false t row v holds W = absurd (cc holds)
 
 -- The search has come after the last slot, and the word that it loaded last was no last one of a slot with the guest frame.
 pub none_found : (gfn : ℕ) (u : Topics) → (u.search.id == 32) ≡ true → (FoundSlot gfn u → ⊥) → FoundNone gfn u
@@ -94,15 +96,17 @@ find_known _ z gfn write t v low W set =
     find_goes_on (t.search.id == 32) z gfn write _ refl (omega arith) (same_without t _ refl refl refl refl refl W) set
     (λ last. absurd (not_last t.search.id low last))
 
-pub slot_known : (z : Sizes) (gfn : ℕ) (write b : Bool) (t : Topics) (v : ℕ) → b ≡ true → t.search.id ≤ 31 → WithoutLock t → HoldsSet t
-    → FaultKnows (find_next gfn write t.search.next (searched t.search v)) z gfn write (record t { search = if b then searched t.search v else t.search })
-slot_known z gfn write true t v is low W set = find_known t.search.next z gfn write t v low W set
-slot_known z gfn write false t v is low W set = absurd (cc is)
+pub slot_known : (z : Sizes) (gfn : ℕ) (write b : Bool) (t : Topics) (row : HostRow) (v : ℕ) → b ≡ true → t.search.id ≤ 31 → WithoutLock t → HoldsSet t
+    → FaultKnows (find_next gfn write t.search.next (searched t.search v)) z gfn write
+    (record t { search = if b then searched t.search v else t.search; row = row })
+slot_known z gfn write true t row v is low W set =
+    find_known t.search.next z gfn write (record t { row = row }) v low (same_without t _ refl refl refl refl refl W) set
+slot_known z gfn write false t row v is low W set = absurd (cc is)
 
 -- the host word
 looked_for : (present : Bool) (gfn : ℕ) (write : Bool) (t : Topics) (v : ℕ) → (write && not (host_allows_write v)) ≡ false → host_present v ≡ present
     → WithoutLock t → FoundSlot gfn t → (write && t.search.slot.read_only) ≡ false
-    → LookedFor present gfn write (record t { host = Some (record { page = page_of t.search.slot gfn; word = v }) })
+    → LookedFor present gfn write (record t { host = Some (record { page = page_of t.search.slot gfn; word = v }); row = one_look })
 looked_for present gfn write t v is there W F may = record {
   looked_up = record { found = record { whole = F.whole; holds = F.holds }; word = v; host = refl };
   presence = there;
@@ -113,7 +117,7 @@ looked_for present gfn write t v is there W F may = record {
 pub host_known : (b present : Bool) (z : Sizes) (gfn : ℕ) (write : Bool) (t : Topics) (v : ℕ) → (write && not (host_allows_write v)) ≡ b
     → host_present v ≡ present → WithoutLock t → FoundSlot gfn t → (write && t.search.slot.read_only) ≡ false
     → FaultKnows (if b then End HostFault else if present then Share else Bring) z gfn write
-    (record t { host = Some (record { page = page_of t.search.slot gfn; word = v }) })
+    (record t { host = Some (record { page = page_of t.search.slot gfn; word = v }); row = one_look })
 host_known true present z gfn write t v is there W F may =
     let D = both write (not (host_allows_write v)) is in (
       record { section = W.inside.section; owns_none = W.inside.owns_none; owes_none = W.inside.owes_none },
@@ -132,7 +136,8 @@ host_known false true z gfn write t v is there W F may = (
 host_known false false z gfn write t v is there W F may = (same_without t _ refl refl refl refl refl W, looked_for false gfn write t v is there W F may)
 
 -- the page that was absent: the word with it present allows what it did
-abbrev brought : (gfn : ℕ) (t : Topics) (v : ℕ) → LookedUp gfn t → LookedUp gfn (record t { host = Some (record { page = page_looked t.host; word = v }) })
+abbrev brought : (gfn : ℕ) (t : Topics) (v : ℕ) → LookedUp gfn t
+    → LookedUp gfn (record t { host = Some (record { page = page_looked t.host; word = v }); row = one_look })
 brought gfn t v L = record {
   found = record { whole = L.found.whole; holds = L.found.holds };
   word = v;
@@ -142,7 +147,7 @@ brought gfn t v L = record {
 pub bring_known : (b : Bool) (z : Sizes) (gfn : ℕ) (write : Bool) (t : Topics) (v : ℕ) → (v == word_looked t.host) ≡ b → WithoutLock t
     → LookedFor false gfn write t
     → FaultKnows (if b then Share else End (Retry false (Entry (host_word_at z t.host) (word_looked t.host) v))) z gfn write
-    (record t { host = Some (record { page = page_looked t.host; word = if b then with_presence true (word_looked t.host) else v }) })
+    (record t { host = Some (record { page = page_looked t.host; word = if b then with_presence true (word_looked t.host) else v }); row = one_look })
 bring_known true z gfn write t v is W L =
     let w : ℕ = word_looked t.host in (
       record { section = W.inside.section; owns_none = W.inside.owns_none; owes_none = W.inside.owes_none },

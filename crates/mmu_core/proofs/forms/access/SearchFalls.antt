@@ -14,6 +14,7 @@ use Rattle.mmu_core.specs.forms.access.FaultLeft.{fault_left, find_left}
 use Rattle.mmu_core.specs.forms.access.FaultSteps.{search_next}
 use Rattle.mmu_core.specs.forms.access.SearchLeft.{look_left}
 use Rattle.part_steps.specs.PageTopics.{searched, searched_at}
+use Rattle.core_views.specs.declared.topics.HostRow.{HostRow}
 
 -- Where a search leads to, with so many steps left after it: it has fewer where it ends, and where it goes on those of the words still to be loaded.
 pub record Leads (z : Sizes) (c : ℕ) (has none more : FaultPlace) : Type 0 where
@@ -55,9 +56,10 @@ find_falls field.Host z c has none more gfn t v L low =
     found_falls (contains gfn (searched_at field.Host t.search v).slot) z c has none more (record t { search = searched_at field.Host t.search v })
     t.search.id L low refl refl
 
-pub slot_falls : (b : Bool) (z : Sizes) (c : ℕ) (has none more : FaultPlace) (gfn : ℕ) (t : Topics) (v : ℕ) → Leads z c has none more → b ≡ true
-    → t.search.id ≤ 31
-    → fault_left (search_next has none more gfn t.search.next (searched t.search v)) z (record t { search = if b then searched t.search v else t.search })
+pub slot_falls : (b : Bool) (z : Sizes) (c : ℕ) (has none more : FaultPlace) (gfn : ℕ) (t : Topics) (row : HostRow) (v : ℕ) → Leads z c has none more
+    → b ≡ true → t.search.id ≤ 31
+    → fault_left (search_next has none more gfn t.search.next (searched t.search v)) z
+    (record t { search = if b then searched t.search v else t.search; row = row })
     < c + (4 * (31 - t.search.id) + look_left t.search.next)
-slot_falls true z c has none more gfn t v L is low = find_falls t.search.next z c has none more gfn t v L low
-slot_falls false z c has none more gfn t v L is low = absurd (cc is)
+slot_falls true z c has none more gfn t row v L is low = find_falls t.search.next z c has none more gfn (record t { row = row }) v L low
+slot_falls false z c has none more gfn t row v L is low = absurd (cc is)

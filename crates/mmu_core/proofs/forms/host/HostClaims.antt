@@ -60,7 +60,7 @@ note_by_end false = refl
 host_notes : (p : HostPlace) (page : ℕ) (h : Held) (v : ℕ) → is_claim p ≡ false
     → (host_note p page h ≡ ends_with (host_outcome p page h v)) ⊎ IsLook (place.Host p)
 host_notes (Claim begun) page h v other = absurd (cc other)
-host_notes (Look to_move) page h v other = inr (to_move, refl)
+host_notes (Look to_move) page h v other = inr tt
 host_notes (End ends.Release) page h v other = inl (note_by_end (moves h.topics))
 host_notes (End _) page h v other = inl refl
 host_notes _ page h v other = inl refl

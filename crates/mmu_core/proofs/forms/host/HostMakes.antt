@@ -81,13 +81,17 @@ makes_host z v a line p page change small S I P =
     may_make z v a (host_part p page change (v.hand a)) small I P S.there (host_needs p (v.hand a) page change (part_rests_at z v a I P S.there) K).0
     (host_says z v a page change p small I P S.there K)
 
--- Whose change of its page is next finds the word that it looked up, or this word with the page present, which it saw absent: nobody else
--- has changed it since, but by bringing the page in.
-pub change_finds : (z : Sizes) (v : View) (a page : ℕ) (change : HostChange) → TopicsInvariant z v → IsPart z v a (host_part Change page change (v.hand a))
+-- Whose change of one page is next finds the word that it looked up, or this word with the page present, which it saw absent: nobody else has changed it
+-- since, but by bringing the page in.
+pub page_finds : (z : Sizes) (v : View) (a new_ : ℕ) → TopicsInvariant z v → IsPart z v a (part.Change new_)
     → IsStill (word_looked (v.hand a).topics.host) (v.words area.Host (page_looked (v.hand a).topics.host))
-change_finds z v a page change P S = looked (v.hand a).topics.host refl S.needs.0.looked (changes_own z v a (word_put change (v.hand a).topics) S)
+page_finds z v a new_ P S = looked (v.hand a).topics.host refl S.needs.0.looked (changes_own z v a new_ S)
   where
     looked : (o : Option HostLook) → (v.hand a).topics.host ≡ o → is_some o ≡ true → owns_page z a (page_looked o) ≡ true
         → IsStill (word_looked o) (v.words area.Host (page_looked o))
     looked None is some own_ = absurd (cc some)
     looked (Some look) is some own_ = P.own_looks a look S.there is own_
+
+pub change_finds : (z : Sizes) (v : View) (a page : ℕ) (change : HostChange) → TopicsInvariant z v → IsPart z v a (host_part Change page change (v.hand a))
+    → IsStill (word_looked (v.hand a).topics.host) (v.words area.Host (page_looked (v.hand a).topics.host))
+change_finds z v a page change P S = page_finds z v a (word_put change (v.hand a).topics) P S

@@ -44,7 +44,6 @@ use Rattle.mmu_core.proofs.orders.ClaimMade.{claim_free, claim_made}
 use Rattle.mmu_core.proofs.lines.EitherPlace.{each_claim, either_place}
 use Rattle.mmu_core.proofs.lines.PartsWait.{neither_waits}
 use Rattle.mmu_core.proofs.machine.GoesOn.{GoesToNoAccess, GoesUnderWay}
-use Rattle.mmu_core.proofs.held.PageRuns.{on_run_prop}
 use Rattle.core_views.specs.declared.trace.Command.{Command}
 use Rattle.core_views.specs.declared.trace.Command.TheVariants.{ChangeHost}
 use Rattle.mmu_core.proofs.lines.FormLaws.{FormLaws}
@@ -199,7 +198,7 @@ host_knows_prop (Begin (begins.Walk rooted)) page change h = hlevel props
 host_knows_prop (Begin _) page change h = hlevel props
 host_knows_prop (End ends.Exclude) page change h = hlevel props
 host_knows_prop (End _) page change h = hlevel props
-host_knows_prop _ page change h = hlevel (props, on_run_prop)
+host_knows_prop _ page change h = hlevel props
 
 pub host_rests_prop : (p : HostPlace) (h : Held) → IsProp (HostRests p h)
 host_rests_prop (End ends.Release) h = hlevel props

@@ -90,7 +90,7 @@ host_leaves (Claim begun) page change h v R K left A =
 host_leaves (Begin p) page change h v R K left A =
     begin_left_host (moves h.topics) (begin_next p h.state.sizes (aim.Page page) h.topics v) h.state.sizes (aim.Page page) _
     ((begin_leaves_pages p (aim.Page page) h.topics v).retired ∙ left.leaves refl)
-    (begin_known p h.state.sizes (aim.Page page) h.topics v R.sizes tt (looks_aimed page h K.0 K.3) R.frames R.level K.1 A)
+    (begin_known p h.state.sizes (aim.Page page) h.topics v R.sizes tt (looks_aimed page h K.0 K.3 K.4) R.frames R.row R.level K.1 A)
 host_leaves Copy page change h v R K left A =
     record { leaves = λ may. left.leaves refl; opens = λ may. absurd (cc may); frames = λ may. absurd (cc may) }
 host_leaves Store page change h v R K left A =

@@ -1,5 +1,5 @@
 -- Who has copied something of a page: an actor that moves it, by the place of its line.
-use Rattle.std.proofs.Common.{◌≡◌, ◌⊎◌, inl, inr, ◌<◌, ℕ, length, refl, sym, subst, ap}
+use Rattle.std.proofs.Common.{◌≡◌, ◌⊎◌, inl, inr, ◌<◌, ℕ, length, refl, ap}
 use Rattle.std.specs.Prelude.{Bool, true, false, Some}
 use Rattle.core_views.specs.declared.place.HostPlace.{HostPlace}
 use Rattle.core_views.specs.declared.place.HostPlace.TheVariants as host
@@ -10,7 +10,6 @@ use Rattle.core_views.specs.declared.trace.Command.{Command}
 use Rattle.core_views.specs.declared.trace.Command.TheVariants.{ChangeHost}
 use Rattle.core_views.specs.declared.trace.HostChange.{HostChange}
 use Rattle.core_views.specs.Held.{Held}
-use Rattle.core_views.specs.HostChanges.{is_own}
 use Rattle.spte_words.specs.declared.area.Area.TheVariants as area
 use Rattle.part_steps.specs.declared.part_step.PartStep.{PartStep}
 use Rattle.part_steps.specs.declared.part_step.PartStep.TheVariants as part
@@ -19,11 +18,11 @@ use Rattle.part_steps.specs.InvalidationHoldings.{MayChange}
 use Rattle.mmu_core.specs.invariant.Invariant.{Invariant, KnowsPart, RetiresPart, UnderWay}
 use Rattle.mmu_core.specs.invariant.TopicsInvariant.{TopicsInvariant}
 use Rattle.mmu_core.specs.lines.Forms.{part_at}
-use Rattle.mmu_core.specs.forms.host.HostKnows.{HasFlushed, HostKnows, LooksAt}
+use Rattle.mmu_core.specs.forms.host.HostKnows.{HostKnows}
 use Rattle.mmu_core.specs.machine.View.{View}
 use Rattle.mmu_core.proofs.held.CopiedSteps.{Movers, MovesPage, moves_on, moves_page}
 use Rattle.mmu_core.proofs.invariant.QuietHand.{one_step}
-use Rattle.part_steps.specs.InvalidationRange.{IsOnRun}
+use Rattle.mmu_core.proofs.forms.host.HostNeeds.{may_change}
 
 -- The line is at a place of a copy, or of a change.
 abbrev pub is_moving : Place → Bool
@@ -31,17 +30,6 @@ is_moving (place.Host host.Copy) = true
 is_moving (place.Host host.Store) = true
 is_moving (place.Host host.Change) = true
 is_moving _ = false
-
-may_change : (page : ℕ) (h : Held) → LooksAt page h → HasFlushed page h → MayChange h
-may_change page h L F = record {
-  looked = L.looked;
-  own_ = subst (λ p. is_own h.state.sizes h.state.actor p ≡ true) (sym L.at) L.own_;
-  opened = F.opened.opened;
-  unraised = F.opened.unraised;
-  invalid = subst (λ p. IsOnRun p h.topics.invalidations.own.pages) (sym L.at) F.invalid;
-  asked = F.asked;
-  awaited = F.awaited;
-}
 
 -- What an actor whose invalidation is open has copied: nothing, or it may change its page.
 abbrev pub CopiesAt : Place → Held → Type 0

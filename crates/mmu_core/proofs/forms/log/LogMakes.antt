@@ -9,7 +9,7 @@ use Rattle.core_views.specs.declared.place.Place.TheVariants as place
 use Rattle.core_views.specs.declared.sizes.Sizes.{Sizes}
 use Rattle.core_views.specs.declared.memory_slot.MemorySlot.{MemorySlot}
 use Rattle.core_views.specs.declared.trace.Command.{Command}
-use Rattle.core_views.specs.declared.trace.Command.TheVariants.{Access, ChangeHost}
+use Rattle.core_views.specs.declared.trace.Command.TheVariants.{Access, ChangeHost, ChangeRun, Split}
 use Rattle.core_views.specs.declared.trace.Line.{Line}
 use Rattle.core_views.specs.Harvests.{slot_at}
 use Rattle.core_views.specs.LogCommands.{log_read}
@@ -40,6 +40,8 @@ pub log_is_managers : (z : Sizes) (actor : Actor) (command : Command) → is_som
 log_is_managers z Manager command is may = refl
 log_is_managers z _ (Access gfn word op) is may = absurd (cc is)
 log_is_managers z _ (ChangeHost page change) is may = absurd (cc is)
+log_is_managers z _ (ChangeRun page change) is may = absurd (cc is)
+log_is_managers z _ (Split gfn) is may = absurd (cc is)
 log_is_managers z _ _ is may = absurd may
 
 module _ (z : Sizes) (v : View) (a : ℕ) (line : Line) (p : LogPlace) (command : Command) (S : IsStep z v a line command (place.Log p)) (I : Invariant z v) where

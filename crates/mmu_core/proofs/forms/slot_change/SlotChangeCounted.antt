@@ -7,7 +7,7 @@ use Rattle.core_views.specs.declared.sizes.Sizes.{Sizes}
 use Rattle.core_views.specs.declared.topics.Topics.{Topics}
 use Rattle.core_views.specs.declared.trace.Slot.{Slot}
 use Rattle.core_views.specs.declared.trace.Command.{Command}
-use Rattle.core_views.specs.declared.trace.Command.TheVariants.{Access, ChangeHost, ChangeRun, ClearLog, DeleteSlot, GetLog, Migrate, SetLog, SetSlot}
+use Rattle.core_views.specs.declared.trace.Command.TheVariants.{Access, ChangeHost, ChangeRun, ClearLog, DeleteSlot, GetLog, Migrate, SetLog, SetSlot, Split}
 use Rattle.core_views.specs.Held.{Held}
 use Rattle.core_views.specs.Sizes.{actors_of}
 use Rattle.core_views.specs.SlotCommands.{arms, slot_invalidated}
@@ -32,6 +32,7 @@ none_armed slots (SetSlot id slot) z some = refl
 none_armed slots (DeleteSlot id) z some = refl
 none_armed slots (GetLog id) z some = refl
 none_armed slots (Migrate call) z some = refl
+none_armed slots (Split gfn) z some = refl
 none_armed slots (ClearLog id first count words) z some = refl
 
 -- What a command has at most, besides the claim and the set.
@@ -50,6 +51,7 @@ besides_few (SetSlot id slot) z = omega arith
 besides_few (DeleteSlot id) z = omega arith
 besides_few (GetLog id) z = omega arith
 besides_few (Migrate call) z = omega arith
+besides_few (Split gfn) z = omega arith
 besides_few (ClearLog id first count words) z = omega arith
 
 -- What a line that begins a dirty log has at most, for its words and to forbid writes.
@@ -63,6 +65,7 @@ armed_most (SetSlot id slot) z is = absurd (cc is)
 armed_most (DeleteSlot id) z is = absurd (cc is)
 armed_most (GetLog id) z is = absurd (cc is)
 armed_most (Migrate call) z is = absurd (cc is)
+armed_most (Split gfn) z is = absurd (cc is)
 armed_most (ClearLog id first count words) z is = absurd (cc is)
 
 -- Where it invalidates a slot it has as many as any.
@@ -75,6 +78,7 @@ invalidated_most slots (SetSlot id slot) z some = omega arith
 invalidated_most slots (DeleteSlot id) z some = omega arith
 invalidated_most slots (GetLog id) z some = omega arith
 invalidated_most slots (Migrate call) z some = omega arith
+invalidated_most slots (Split gfn) z some = omega arith
 invalidated_most slots (ClearLog id first count words) z some = omega arith
 
 -- Few beside those of a claim, of 64 pages a word, of the invalidation of a slot, of five for each of its frames, or of its dirty log, and other actors.

@@ -3,7 +3,6 @@ use Rattle.std.proofs.lemmas.Bool.Decides.{nat_tests}
 use Rattle.std.proofs.Common.{◌≡◌, ◌<◌, ◌≤◌, ◌+◌, ◌==◌, ℕ, arith, refl, sym, subst, ap, ◌∙◌}
 use Rattle.part_steps.specs.StayTopics.{is_section}
 use Rattle.std.specs.Prelude.{Bool, true, false, nat_lt, if◌then◌else◌, Option, Some, None, is_some}
-use Rattle.std.proofs.lemmas.Bool.{eqb-true}
 use Rattle.circular_buffer.specs.Buffer.{Buffer}
 use Rattle.core_views.specs.declared.cache.Translation.{Translation}
 use Rattle.core_views.specs.declared.place.BeginPlace.{BeginPlace}
@@ -54,6 +53,7 @@ use Rattle.mmu_core.specs.forms.slot_change.SlotChangeSteps.{slot_target}
 use Rattle.mmu_core.specs.declared.write_protect.WriteProtectNext.{WriteProtectNext}
 use Rattle.mmu_core.specs.declared.write_protect.WriteProtectNext.TheVariants as protects_next
 use Rattle.mmu_core.specs.orders.WriteProtectSteps.{protect_next, protect_part}
+use Rattle.mmu_core.proofs.orders.RunsAimed.{none_changed}
 use Rattle.mmu_core.proofs.orders.ProtectKnown.{ProtectComes, protect_known}
 use Rattle.mmu_core.proofs.orders.ProtectPlaces.{kept_closed, protect_leaves_pages}
 use Rattle.mmu_core.proofs.orders.ClaimMade.{claim_made}
@@ -228,7 +228,7 @@ module _ (line : Line) (h : Held) (command : Command) (cached : Buffer Translati
       let target : Target = slot_target h command in
       begin_comes p (begin_next p h.state.sizes target h.topics v) (part_topics (begin_part p target h.topics) h.topics v)
       (begin_leaves_pages p target h.topics v) K
-      (begin_known p h.state.sizes target h.topics v R.sizes K.3.frames (owns_aimed (slot_or_none moved) h.topics K.0) R.frames R.level K.1 A)
+      (begin_known p h.state.sizes target h.topics v R.sizes K.3.frames (owns_aimed (slot_or_none moved) h.topics K.0) R.frames R.row R.level K.1 A)
   slot_change_known Exclude R K left W A =
       let u : Topics = part_topics part.Exclude h.topics v in
       let way = way_tried h.state.sizes moved h.topics v K.2 in
@@ -238,7 +238,6 @@ module _ (line : Line) (h : Held) (command : Command) (cached : Buffer Translati
   slot_change_known Count R K left W A =
       let u : Topics = part_topics part.Count h.topics v in
       let owns : OwnsSet u = same_set h.topics u refl K.1 in
-      let alone : h.topics.hold ≡ Exclusive = K.0.holds in
       let way = way_still h.state.sizes moved h.topics u refl refl refl (λ is. refl) K.2 in
       one_place (λ q. Knows q (behind Count u)) (v == own_open h.topics.invalidations) Publish Close
       (λ e. (
@@ -247,9 +246,9 @@ module _ (line : Line) (h : Held) (command : Command) (cached : Buffer Translati
           K.0,
           record {
             owns = owns;
-            alone = alone;
-            looked = ap count_checked alone;
-            none_open = eqb-true v (own_open h.topics.invalidations) e;
+            alone = K.0.holds;
+            looked = ap count_checked K.0.holds;
+            none_open = grind (arith, nat_tests);
             of_no_page = K.2.of_no_page;
             none_retired = left.leaves refl;
           },
@@ -277,13 +276,14 @@ module _ (line : Line) (h : Held) (command : Command) (cached : Buffer Translati
       way_unraised h.state.sizes moved h.topics K.2,
       published_there h.slots command K.3,
       way_flushed h.state.sizes moved h.topics K.2,
+      K.2.of_no_page,
     ),
   )
   slot_change_known Release R K left W A =
       let u : Topics = part_topics part.Release h.topics v in
       let free : HoldsLock Loose u = lock_let_go Exclusive h.topics K.0 in
       one_place (λ q. Knows q (behind Release u)) h.topics.invalidations.opened (End ends.Exclude) Watch
-      (λ e. (changes, (record { rests = holds_free u free; opened = e; unraised = K.4 e }, K.1, K.2, K.5)))
+      (λ e. (changes, ((record { rests = holds_free u free; opened = e; unraised = K.4 e }, none_changed u (K.7 e)), K.1, K.2, K.5)))
       (λ e. (changes, (free, K.1, watch_begins h K.2 R.sizes, few_armed W, K.5)))
   slot_change_known (End p) R K left W A =
       end_comes p (end_next p v) (part_topics (end_part p h.topics) h.topics v) R (end_leaves_pages p h.topics v) K (ending_known p h.topics v K.0 A) W
@@ -293,8 +293,8 @@ module _ (line : Line) (h : Held) (command : Command) (cached : Buffer Translati
       (protect_leaves_pages p range h.topics v) K (protect_known p h.state.sizes range h.topics v R.sizes K.2.some K.2.low R.level K.1)
   slot_change_known Watch R K left W A = watch_known _ _ (watch_made h v) R K W (left.opens refl)
   slot_change_known Clear R K left W A =
-      let owns_none = ap (λ o. filled_more o v) K.1.owns_none in
-      (changes, (K.0, record { leaves = K.1.leaves; in_pool = K.1.in_pool; owns_none = owns_none; watched = K.1.watched; closed = K.1.closed }))
+      let none = ap (λ o. filled_more o v) K.1.owns_none in
+      (changes, (K.0, record { leaves = K.1.leaves; in_pool = K.1.in_pool; owns_none = none; watched = K.1.watched; closed = K.1.closed }))
   slot_change_known Give R K left W A =
       let owes_none = R.owes (ap is_section K.0.outside) in
       record { outside = K.0.outside; loose = K.0.holds; owns_none = refl; owes_none = owes_none; no_table = K.0.no_table; no_set = K.0.no_set }

@@ -36,7 +36,7 @@ use Rattle.core_views.specs.declared.place.FrameRange.{FrameRange}
 use Rattle.core_views.specs.declared.place.WriteProtectPlace.{WriteProtectPlace}
 use Rattle.core_views.specs.declared.place.WriteProtectPlace.TheVariants as protect
 use Rattle.core_views.specs.declared.memory_slot.MemorySlot.{MemorySlot}
-use Rattle.core_views.specs.declared.trace.Command.TheVariants.{Access, ChangeHost, ChangeRun, ClearLog, DeleteSlot, GetLog, Migrate, SetLog, SetSlot}
+use Rattle.core_views.specs.declared.trace.Command.TheVariants.{Access, ChangeHost, ChangeRun, ClearLog, DeleteSlot, GetLog, Migrate, SetLog, SetSlot, Split}
 use Rattle.core_views.specs.Refusals.{is_logged, log_refusal}
 use Rattle.core_views.specs.Slots.{first_of, is_some_and}
 use Rattle.core_views.specs.SlotSets.{slot_of_id}
@@ -232,6 +232,7 @@ arms_slot z v a line command S I some = by command refl some
     by (DeleteSlot id) is some = absurd (cc some)
     by (GetLog id) is some = absurd (cc some)
     by (Migrate call) is some = absurd (cc some)
+    by (Split gfn) is some = absurd (cc some)
     by (ClearLog id first count words) is some = absurd (cc some)
 
 armed_there : (z : Sizes) (v : View) (a : ℕ) (line : Line) (command : Command) → IsStep z v a line command (place.SlotChange Role) → Invariant z v
@@ -251,6 +252,7 @@ armed_there z v a line command S I is = by command refl is
     by (DeleteSlot id) at is = absurd (cc is)
     by (GetLog id) at is = absurd (cc is)
     by (Migrate call) at is = absurd (cc is)
+    by (Split gfn) at is = absurd (cc is)
     by (ClearLog id first count words) at is = absurd (cc is)
 
 -- So the words say to the line what it doesn't know itself.

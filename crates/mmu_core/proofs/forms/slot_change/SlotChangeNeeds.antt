@@ -77,7 +77,7 @@ slot_change_needs Fill h command small R K left = (K.1, small, owned_below h R K
 slot_change_needs Role h command small R K left = (K.1, omega arith, owned_below h R (full_owns h.topics.owned K.1))
 slot_change_needs (Begin p) h command small R K left =
     begin_needs p h (slot_target h command) R K.3.frames (owns_aimed (slot_or_none (slot_invalidated h.slots command)) h.topics K.0)
-    (λ closed page aimed. absurd (let none = owns_aimed (slot_or_none (slot_invalidated h.slots command)) h.topics K.0 in cc (none, aimed)))
+    (λ closed run page aimed on. absurd (let none = (owns_aimed (slot_or_none (slot_invalidated h.slots command)) h.topics K.0).0 in cc (none, aimed)))
     (ap is_uncopied (left.frames refl)) K.1
 slot_change_needs Count h command small R K left = tt
 slot_change_needs Publish h command small R K left = K.1

@@ -15,7 +15,7 @@ use Rattle.core_views.specs.declared.place.SlotChangePlace.{SlotChangePlace}
 use Rattle.core_views.specs.declared.place.SlotChangePlace.TheVariants.{AtOnce, Claim, Fill, Begin, Publish, Release, End, Watch, WriteProtect, Clear, Give}
 use Rattle.core_views.specs.declared.sizes.Sizes.{Sizes}
 use Rattle.core_views.specs.declared.trace.Command.{Command}
-use Rattle.core_views.specs.declared.trace.Command.TheVariants.{Access, ChangeHost, ChangeRun, ClearLog, DeleteSlot, GetLog, Migrate, SetLog, SetSlot}
+use Rattle.core_views.specs.declared.trace.Command.TheVariants.{Access, ChangeHost, ChangeRun, ClearLog, DeleteSlot, GetLog, Migrate, SetLog, SetSlot, Split}
 use Rattle.core_views.specs.Held.{Held}
 use Rattle.core_views.specs.SlotCommands.{at_once, change_at_once, changes_slot, is_unchanged}
 use Rattle.core_views.specs.SlotSets.{MemorySlots, flat_slots, slot_of_id}
@@ -140,6 +140,7 @@ never_for_frames z (SetLog id false) slots =
     none_for_frames ((is_none (slot_of_id id slots), Missing) ∷ (not (is_logged id slots), NoLog) ∷ []) false (refl, (refl, tt))
 never_for_frames z (GetLog id) slots = refl
 never_for_frames z (Migrate call) slots = refl
+never_for_frames z (Split gfn) slots = refl
 never_for_frames z (ClearLog id first count words) slots = refl
 
 -- It knows what its first place asks, where its actor is at rest.

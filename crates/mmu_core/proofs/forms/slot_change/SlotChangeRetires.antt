@@ -221,7 +221,7 @@ module _ (h : Held) (command : Command) (v : ℕ) where
       let target : Target = slot_target h command in
       begin_opens (begin_next p h.state.sizes target h.topics v) (after (Begin p))
       (begin_known p h.state.sizes target h.topics v R.sizes K.3.frames
-      (owns_aimed (slot_or_none (slot_invalidated h.slots command)) h.topics K.0) R.frames R.level K.1 A)
+      (owns_aimed (slot_or_none (slot_invalidated h.slots command)) h.topics K.0) R.frames R.row R.level K.1 A)
   change_opens Watch R K left A = λ may. left refl
   change_opens (WriteProtect range p) R K left A = λ may. protect_opens p range h.topics v ∙ left refl
   change_opens Exclude R K left A = either_place (λ q. Opens q (after Exclude)) (v == 0) Count Exclude (λ may. absurd (cc may)) (λ may. absurd (cc may))

@@ -16,7 +16,7 @@ use Rattle.core_views.specs.declared.place.SlotChangePlace.TheVariants.{AtOnce, 
 use Rattle.core_views.specs.declared.memory_slot.MemorySlot.{MemorySlot}
 use Rattle.core_views.specs.declared.trace.Slot.{Slot}
 use Rattle.core_views.specs.declared.trace.Command.{Command}
-use Rattle.core_views.specs.declared.trace.Command.TheVariants.{Access, ChangeHost, ChangeRun, ClearLog, DeleteSlot, GetLog, Migrate, SetLog, SetSlot}
+use Rattle.core_views.specs.declared.trace.Command.TheVariants.{Access, ChangeHost, ChangeRun, ClearLog, DeleteSlot, GetLog, Migrate, SetLog, SetSlot, Split}
 use Rattle.core_views.specs.Held.{Held}
 use Rattle.core_views.specs.SlotCommands.{slot_armed, slot_change, changes_slot}
 use Rattle.part_steps.specs.ControlBits.{has_to_flush}
@@ -78,6 +78,7 @@ module _ (h : Held) (command : Command) (v : ℕ) where
   arms_told (DeleteSlot id) = Nothing
   arms_told (GetLog id) = Nothing
   arms_told (Migrate call) = Nothing
+  arms_told (Split gfn) = Nothing
   arms_told (ClearLog id first count words) = Nothing
 
   at_once_told : (now_ : Bool) → Told h v (place.SlotChange Publish) command (if now_ then arming true command else [])
@@ -95,6 +96,7 @@ module _ (h : Held) (command : Command) (v : ℕ) where
   clean_told range (DeleteSlot id) seen last = Nothing
   clean_told range (GetLog id) seen last = Nothing
   clean_told range (Migrate call) seen last = Nothing
+  clean_told range (Split gfn) seen last = Nothing
   clean_told range (ClearLog id first count words) seen last = Nothing
 
   first_not : (a b : Bool) → (a || b) ≡ false → a ≡ false

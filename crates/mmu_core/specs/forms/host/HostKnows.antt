@@ -1,5 +1,5 @@
 -- What a line knows that changes a host page, at each of its places, from what its actor holds alone.
-use Rattle.std.specs.Prelude.{◌≡◌, ◌<◌, ◌≤◌, ℕ, Bool, true, false, Option, None, is_some}
+use Rattle.std.specs.Prelude.{◌≡◌, ◌<◌, ◌≤◌, ℕ, Bool, true, false, Option, Some, None, is_some}
 use Rattle.core_views.specs.declared.place.EndPlace.TheVariants as ends
 use Rattle.core_views.specs.declared.place.HostPlace.{HostPlace}
 use Rattle.core_views.specs.declared.place.HostPlace.TheVariants.{Look, Claim, Begin, Copy, Store, Change, End, Watch, Free}
@@ -12,7 +12,7 @@ use Rattle.core_views.specs.HostChanges.{is_own}
 use Rattle.core_views.specs.Sizes.{actors_of}
 use Rattle.spte_words.specs.Areas.{words_of_bits}
 use Rattle.part_steps.specs.declared.invalidations.Target.TheVariants as aim
-use Rattle.part_steps.specs.InvalidationRange.{IsOnRun}
+use Rattle.part_steps.specs.InvalidationRange.{run_of}
 use Rattle.part_steps.specs.FrameHoldings.{MayGiveFrame}
 use Rattle.part_steps.specs.FrameTopics.{copy_held, is_uncopied, words_moved}
 use Rattle.part_steps.specs.PartSteps.{IsAtRest}
@@ -27,11 +27,12 @@ abbrev pub is_move : HostChange → Bool
 is_move Move = true
 is_move _ = false
 
--- The page is the actor's own, and its host word was looked up.
+-- The page is the actor's own, and its host word was looked up, and no other in a row with it.
 pub record LooksAt (page : ℕ) (h : Held) : Type 0 where
   pub own_ : is_own h.state.sizes h.state.actor page ≡ true
   pub looked : is_some h.topics.host ≡ true
   pub at : page_looked h.topics.host ≡ page
+  pub alone : h.topics.row.looked ≡ 1
 
 -- It saw that the page is a small one.
 abbrev pub SawSmall : Held → Type 0
@@ -41,7 +42,7 @@ SawSmall h = maps_large (word_looked h.topics.host) ≡ false
 pub record HasFlushed (page : ℕ) (h : Held) : Type 0 where
   pub owns_none : h.topics.owned ≡ None
   pub opened : IsOpen h.topics
-  pub invalid : IsOnRun page h.topics.invalidations.own.pages
+  pub invalid : h.topics.invalidations.own.pages ≡ Some (run_of page)
   pub asked : h.state.sizes.vcpus ≤ h.topics.flush.asked
   pub awaited : h.state.sizes.vcpus ≤ h.topics.flush.awaited
 

@@ -74,7 +74,7 @@ SlotChangeKnows Publish command h =
 SlotChangeKnows Release command h =
     HoldsLock Exclusive h.topics × HasPublished h.topics.retired h.topics.owned × (h.topics.watched ≡ 0) × (saw_open h.topics.invalidations ≡ false)
     × (h.topics.invalidations.opened ≡ true → h.topics.invalidations.raised ≡ false) × ArmsThere command h.slots
-    × HasFlushedAll h.state.sizes.vcpus h.topics
+    × HasFlushedAll h.state.sizes.vcpus h.topics × (h.topics.invalidations.opened ≡ true → h.topics.invalidations.own.pages ≡ None)
 SlotChangeKnows (End p) command h =
     EndKnows p h.topics × HasPublished h.topics.retired h.topics.owned × (h.topics.watched ≡ 0) × ArmsThere command h.slots
 SlotChangeKnows Watch command h =

@@ -12,7 +12,7 @@ use Rattle.mmu_core.specs.forms.host.HostSteps.{entry_of}
 use Rattle.mmu_core.specs.machine.View.{upd}
 use Rattle.mmu_core.proofs.machine.Columns.{same_or, upd_other, upd_same}
 
-apart_false : (a b : ℕ) → a ≢ b → (a == b) ≡ false
+pub apart_false : (a b : ℕ) → a ≢ b → (a == b) ≡ false
 apart_false a b never = by (a == b) refl
   where
     by : (x : Bool) → (a == b) ≡ x → (a == b) ≡ false

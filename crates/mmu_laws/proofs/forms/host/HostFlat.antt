@@ -54,10 +54,10 @@ use Rattle.mmu_core.specs.orders.WatchSteps.{watch_next}
 use Rattle.mmu_core.specs.machine.Outcomes.{answering, place_after}
 use Rattle.mmu_core.specs.machine.View.{View, answer_in}
 use Rattle.mmu_core.proofs.held.CopiedSteps.{CopiedAt}
-use Rattle.mmu_core.proofs.orders.ClaimMade.{claim_host, claim_made}
+use Rattle.mmu_core.proofs.orders.ClaimMade.{claim_looks, claim_made}
 use Rattle.mmu_core.proofs.lines.EitherPlace.{each_watch, either_place, one_place}
 use Rattle.mmu_core.proofs.forms.host.HostKept.{is_change}
-use Rattle.mmu_core.proofs.forms.host.HostKnown.{begin_leaves_host, end_leaves_host}
+use Rattle.mmu_core.proofs.orders.RunsAimed.{begin_leaves_looks, end_leaves_looks}
 use Rattle.mmu_core.proofs.machine.PartStepping.{IsPart}
 use Rattle.mmu_core.proofs.machine.Stepping.{IsStep}
 use Rattle.mmu_laws.specs.flat.FlatInvariant.{HasNoted, HostUnder}
@@ -256,13 +256,13 @@ module _ (z : Sizes) (v : View) (a : ℕ) (line : Line) (page : ℕ) (change : H
   host_goes_on (Claim begun) K S I P C M R =
       let x : ℕ = found (Claim begun) in
       claim_goes begun (claim_next Frames begun h.state.sizes h.topics.frames.claim x) K S I P M R
-      (noted (Claim begun) M (claim_host h.state.sizes Frames begun h.topics x _ _ _ (claim_made h.state.sizes Frames begun h.topics x)) R.under.1)
+      (noted (Claim begun) M (claim_looks h.state.sizes Frames begun h.topics x _ _ _ (claim_made h.state.sizes Frames begun h.topics x)).host R.under.1)
   host_goes_on (Begin p) K S I P C M R =
       let next : BeginNext = begin_next p h.state.sizes (aim.Page page) h.topics (found (Begin p)) in
       host_tells_none z v a line page change facts past u (Begin p) (after_begin (moves h.topics) next) refl M P R (
         R.under.0,
         begun_under (moves h.topics) next (after (Begin p))
-            (noted (Begin p) M (begin_leaves_host p (aim.Page page) h.topics (found (Begin p))) R.under.1),
+            (noted (Begin p) M (begin_leaves_looks p (aim.Page page) h.topics (found (Begin p))).host R.under.1),
       )
   host_goes_on Copy K S I P C M R =
       host_tells_none z v a line page change facts past u Copy Store refl M P R (R.under.0, noted Copy M refl R.under.1)
@@ -285,7 +285,7 @@ module _ (z : Sizes) (v : View) (a : ℕ) (line : Line) (page : ℕ) (change : H
       by true won = change_won z v a line page change facts past u K S I P C M won (eqb-true (v.words area.Host at_page) looked won) R
       by false lost = change_lost z v a line page change facts past u K P C M lost R
   host_goes_on (End p) K S I P C M R =
-      end_goes p (end_next p (found (End p))) K S P M R (changed (End p) M (end_leaves_host p h.topics (found (End p)) K.1) R.under.1)
+      end_goes p (end_next p (found (End p))) K S P M R (changed (End p) M (end_leaves_looks p h.topics (found (End p)) K.1).host R.under.1)
   host_goes_on Watch K S I P C M R =
       let stage = changed Watch M refl R.under.1 in
       host_tells_none z v a line page change facts past u Watch (after_frame_watch (watch_next h (found Watch))) refl M P R

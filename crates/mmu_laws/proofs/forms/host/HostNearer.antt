@@ -19,7 +19,7 @@ use Rattle.part_steps.specs.PartTasks.{own_index, part_task}
 use Rattle.core_views.specs.HostChanges.{is_own}
 use Rattle.mmu_core.proofs.lines.EitherPlace.{either_place, one_place}
 use Rattle.part_steps.specs.PartTopics.{part_topics}
-use Rattle.mmu_core.proofs.held.OwnPages.{OwnWords}
+use Rattle.mmu_core.proofs.held.NextSeen.{SeesOwn}
 use Rattle.mmu_core.specs.invariant.HostWordsPart.{IsStill}
 use Rattle.spte_words.specs.HostWords.{host_allows_write, host_frame, host_level, host_present}
 use Rattle.spte_words.proofs.ReadsHost.{host_is_present}
@@ -28,6 +28,7 @@ use Rattle.mmu_core.specs.lines.PartWaits.{part_waits}
 use Rattle.mmu_core.specs.orders.InvalidateLeft.{begin_left, end_left}
 use Rattle.mmu_core.specs.orders.InvalidateSteps.{end_part, begin_next, end_next}
 use Rattle.mmu_core.specs.lines.Forms.{RestsAt}
+use Rattle.part_steps.specs.PageRuns.{one_look}
 use Rattle.part_steps.specs.PartSteps.{PartNeeds}
 use Rattle.part_steps.specs.PartBounds.{PartRests}
 use Rattle.spte_words.specs.declared.area.Area.{Area}
@@ -36,7 +37,7 @@ use Rattle.core_views.specs.declared.trace.Command.{Command}
 use Rattle.core_views.specs.declared.trace.Command.TheVariants.{ChangeHost}
 use Rattle.part_steps.specs.declared.task.Task.{Task}
 use Rattle.core_views.specs.Held.{Held}
-use Rattle.part_steps.specs.PartTasks.{page_looked, word_looked}
+use Rattle.part_steps.specs.PartTasks.{page_looked, word_looked, word_next}
 use Rattle.core_views.specs.declared.place.HostPlace.{HostPlace}
 use Rattle.core_views.specs.declared.place.EndPlace.{EndPlace}
 use Rattle.mmu_core.specs.declared.invalidate.EndNext.{EndNext}
@@ -69,9 +70,11 @@ use Rattle.mmu_core.specs.forms.host.HostSteps.{maps_large}
 
 -- ---- the exchange
 
--- Where the step is one that exchanges a host word, it finds the word that was looked up, or this word with the page present, which was absent.
+-- Where the step is one that exchanges a host word, it finds the word that was looked up, or this word with the page present, which was absent; and at the next
+-- page of a run the word that was seen of it.
 abbrev pub FindsStill : Option PartStep → Topics → ℕ → Type 0
 FindsStill (Some (part.Change new_)) t v = IsStill (word_looked t.host) v
+FindsStill (Some part.ChangeNext) t v = v ≡ word_next t.invalidations.own.pages
 FindsStill _ t v = Unit {0}
 
 is_word_now : (o : Option HostLook) (host : ℕ → ℕ) → ((look : HostLook) → o ≡ Some look → IsStill look.word (host look.page)) → is_some o ≡ true
@@ -79,21 +82,22 @@ is_word_now : (o : Option HostLook) (host : ℕ → ℕ) → ((look : HostLook) 
 is_word_now None host is some = absurd (cc some)
 is_word_now (Some look) host is some = is look refl
 
-part_finds : (step : PartStep) (own_ note : ℕ) (h : Held) (words : Area → ℕ → ℕ) → PartNeeds step h → OwnWords h (words area.Host)
+part_finds : (step : PartStep) (own_ note : ℕ) (h : Held) (words : Area → ℕ → ℕ) → PartNeeds step h → SeesOwn h (words area.Host)
     → FindsStill (Some step) h.topics (answer_in (part_task step own_ h.topics note) words)
 part_finds (part.Change new_) own_ note h words N looks = is_word_now h.topics.host (words area.Host) looked N.0.looked
   where
     looked : (look : HostLook) → h.topics.host ≡ Some look → IsStill look.word (words area.Host look.page)
-    looked look is = looks look is (ap (λ (o : Option HostLook). is_own h.state.sizes h.state.actor (page_looked o)) (sym is) ∙ N.0.own_)
+    looked look is = looks.looked look is (ap (λ (o : Option HostLook). is_own h.state.sizes h.state.actor (page_looked o)) (sym is) ∙ N.0.own_)
+part_finds part.ChangeNext own_ note h words N looks = looks.next N
 part_finds _ own_ note h words N looks = tt
 
 finds_by : (s : Option PartStep) (note : ℕ) (touch : Task) (h : Held) (words : Area → ℕ → ℕ)
-    → ((step : PartStep) → s ≡ Some step → PartNeeds step h) → OwnWords h (words area.Host)
+    → ((step : PartStep) → s ≡ Some step → PartNeeds step h) → SeesOwn h (words area.Host)
     → FindsStill s h.topics (answer_in (task_by s h note touch) words)
 finds_by None note touch h words needs looks = tt
 finds_by (Some step) note touch h words needs looks = part_finds step (own_index h) note h words (needs step refl) looks
 
-pub finds_at : (p : Place) (c : Command) (h : Held) (words : Area → ℕ → ℕ) → RestsAt p c h → OwnWords h (words area.Host)
+pub finds_at : (p : Place) (c : Command) (h : Held) (words : Area → ℕ → ℕ) → RestsAt p c h → SeesOwn h (words area.Host)
     → FindsStill (part_at p c h) h.topics (answer_in (task_at p c h) words)
 finds_at p c h words R looks = finds_by (part_at p c h) (note_at p c h) (touch_at c h) h words (λ step is. step_needs p c h step R is) looks
 
@@ -109,7 +113,7 @@ few_tries : (present : Bool) → 7 + (if present then 0 else 1) ≤ 8
 few_tries true = omega arith
 few_tries false = omega arith
 
-fewer_tries : (found seen : Bool) (k : ℕ) → found ≡ true → seen ≡ false → 7 + (if found then 0 else 1) + k < 7 + (if seen then 0 else 1) + k
+pub fewer_tries : (found seen : Bool) (k : ℕ) → found ≡ true → seen ≡ false → 7 + (if found then 0 else 1) + k < 7 + (if seen then 0 else 1) + k
 fewer_tries true false k there absent = omega arith
 fewer_tries true true k there absent = absurd (cc absent)
 fewer_tries false seen k there absent = absurd (cc there)
@@ -124,6 +128,7 @@ still_owner false frame owned = refl
 change_nearer : (c : Command) (won : Bool) (z : Sizes) (t : Topics) (v new_ : ℕ) → (v == word_looked t.host) ≡ won → IsStill (word_looked t.host) v
     → Nearer (Goes (place.Host (if won then End ends.Exclude else Change))) c z (record t {
       host = Some (record { page = page_looked t.host; word = if won then new_ else v });
+      row = one_look;
       watched = 0;
       frames = record t.frames { owned = frame_after won (host_frame (word_looked t.host)) t.frames.owned };
     }) (host_left Change z t)
@@ -223,7 +228,7 @@ host_nearer (Begin p) page change h v R K finds goes =
     let same = ap (λ (f : HeldFrames). is_some f.owned) (begin_leaves_pages p (aim.Page page) h.topics v).frames in
     begin_nearer (ChangeHost page change) (moves h.topics) (begin_next p h.state.sizes (aim.Page page) h.topics v) h.state.sizes _
     (begin_left p h.state.sizes 1 h.topics) same
-    (begin_falls p h.state.sizes 1 (aim.Page page) h.topics v (omega arith) R.level K.1 goes)
+    (begin_falls p h.state.sizes 1 (aim.Page page) h.topics v (omega arith) R.row R.level K.1 goes)
 host_nearer Copy page change h v R K finds goes = let moved = copied_moved h.topics.frames.owned v in omega (arith, moved)
 host_nearer Store page change h v R K finds goes =
     store_nearer (ChangeHost page change) (nat_lt (words_moved h.topics.frames.owned + 1) h.state.sizes.words) h.state.sizes h.topics K.2.owns K.2.left

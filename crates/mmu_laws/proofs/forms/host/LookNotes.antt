@@ -38,7 +38,7 @@ own_look_tells : (moves own_ : Bool) (page : ℕ) (h : Held) (v : ℕ)
     (kind_of_task h.state.sizes (part_task (if own_ then part.Host page else part.Seq) (own_index h) h.topics 1))
     (if own_ then after_look moves v else Ends (Refused OutOfRange)) v
 own_look_tells moves true page h v = record {
-  tells = inr (inr (inr (record { moves = moves; at = refl; looks = refl })));
+  tells = inr (inr (inr (inl (record { moves = moves; at = refl; looks = refl }))));
   last = λ L. let some = L.ends in let none = looks_end_none moves L.map in absurd (cc (some, none));
   awaits = λ A. let at = A.at in absurd (cc at);
   looks = λ L. (refl, sizes (maps_large v));

@@ -8,7 +8,7 @@ use Rattle.core_views.specs.declared.place.LogPlace.TheVariants.{AtOnce, Await, 
 use Rattle.core_views.specs.declared.place.Place.{Place}
 use Rattle.core_views.specs.declared.place.Place.TheVariants as place
 use Rattle.core_views.specs.declared.trace.Command.{Command}
-use Rattle.core_views.specs.declared.trace.Command.TheVariants.{Access, ChangeHost, ChangeRun, ClearLog, GetLog, Migrate}
+use Rattle.core_views.specs.declared.trace.Command.TheVariants.{Access, ChangeHost, ChangeRun, ClearLog, GetLog, Migrate, Split}
 use Rattle.core_views.specs.Held.{Held}
 use Rattle.core_views.specs.LogCommands.{log_read}
 use Rattle.core_views.specs.SlotCommands.{changes_slot}
@@ -42,6 +42,7 @@ changes_no_log (ChangeHost page change) changes reads = cc changes
 changes_no_log (ChangeRun page change) changes reads = cc changes
 changes_no_log (GetLog id) changes reads = cc changes
 changes_no_log (Migrate call) changes reads = cc changes
+changes_no_log (Split gfn) changes reads = cc changes
 changes_no_log (ClearLog id first count words) changes reads = cc changes
 changes_no_log _ changes reads = cc reads
 
@@ -57,7 +58,11 @@ may_end_awaits (place.Access p) (Access gfn word op) h v R M = absurd (let reads
 may_end_awaits (place.Access p) _ h v R M = absurd R
 may_end_awaits (place.Host p) (ChangeHost page change) h v R M = absurd (let reads = M.reads in cc reads)
 may_end_awaits (place.Host p) _ h v R M = absurd R
+may_end_awaits (place.HostRun p) (ChangeRun page change) h v R M = absurd (let reads = M.reads in cc reads)
+may_end_awaits (place.HostRun p) _ h v R M = absurd R
 may_end_awaits (place.SlotChange p) command h v R M = absurd (changes_no_log command R.0 M.reads)
+may_end_awaits (place.Split p) (Split gfn) h v R M = absurd (let reads = M.reads in cc reads)
+may_end_awaits (place.Split p) _ h v R M = absurd R
 may_end_awaits place.Between command h v R M = absurd (let note = M.note in cc note)
 may_end_awaits (place.Log q) command h v R M = log_may_end q command h v M
 

@@ -9,7 +9,7 @@ use Rattle.core_views.specs.declared.place.Place.TheVariants as place
 use Rattle.core_views.specs.declared.place.SlotChangePlace.TheVariants as change
 use Rattle.core_views.specs.declared.sizes.Sizes.{Sizes}
 use Rattle.core_views.specs.declared.trace.Command.{Command}
-use Rattle.core_views.specs.declared.trace.Command.TheVariants.{Access, ChangeHost}
+use Rattle.core_views.specs.declared.trace.Command.TheVariants.{Access, ChangeHost, ChangeRun, Split}
 use Rattle.core_views.specs.declared.trace.Line.{Line}
 use Rattle.core_views.specs.declared.trace.Slot.{Slot as SlotOf}
 use Rattle.core_views.specs.Actors.{is_same}
@@ -65,8 +65,10 @@ no_log_line : (p : Place) (command : Command) (h : Held) → reading_at p comman
     → is_some (log_read command) ≡ true → ⊥
 no_log_line (place.Access p) (Access gfn word op) h other begun K reads = cc reads
 no_log_line (place.Host p) (ChangeHost page change_) h other begun K reads = cc reads
+no_log_line (place.HostRun p) (ChangeRun page change_) h other begun K reads = cc reads
 no_log_line (place.SlotChange p) command h other begun K reads = changes_no_log command K.0 reads
 no_log_line (place.Log p) command h other begun K reads = cc other
+no_log_line (place.Split p) (Split gfn) h other begun K reads = cc reads
 no_log_line place.Between command h other begun K reads = begun
 no_log_line _ _ h other begun K reads = K
 

@@ -1,5 +1,6 @@
 -- Each step keeps what lines have read of dirty logs: its own line's, and those of other hands.
 use Rattle.std.proofs.Common.{◌≡◌, ◌≢◌, ◌⊎◌, inl, inr, ◌<◌, ◌++◌, ℕ, refl, sym, subst, ap, ◌∙◌}
+use Rattle.mmu_core.proofs.forms.split.SplitTold.{split_tells_so}
 use Rattle.std.specs.Prelude.{None, Option, Some, false, is_some, true}
 use Rattle.core_views.specs.declared.actor.Actor.TheVariants.{Manager}
 use Rattle.core_views.specs.declared.place.LogPlace.{LogPlace}
@@ -7,7 +8,7 @@ use Rattle.core_views.specs.declared.place.Place.{Place}
 use Rattle.core_views.specs.declared.place.Place.TheVariants as place
 use Rattle.core_views.specs.declared.sizes.Sizes.{Sizes}
 use Rattle.core_views.specs.declared.trace.Command.{Command}
-use Rattle.core_views.specs.declared.trace.Command.TheVariants.{Access, ChangeHost, ClearLog, GetLog}
+use Rattle.core_views.specs.declared.trace.Command.TheVariants.{Access, ChangeHost, ChangeRun, ClearLog, GetLog, Split}
 use Rattle.core_views.specs.declared.trace.Line.{Line}
 use Rattle.core_views.specs.declared.trace.Slot.{Slot as SlotOf}
 use Rattle.core_views.specs.Events.{after_all}
@@ -46,7 +47,7 @@ use Rattle.mmu_laws.proofs.flat.FlatKept.{told_events, told_kinds}
 use Rattle.mmu_laws.proofs.flat.FlatRuns.{none_under}
 use Rattle.mmu_laws.proofs.flat.LogsKept.{ReadyLogs}
 use Rattle.mmu_laws.proofs.flat.LogsStill.{bit_was}
-use Rattle.mmu_laws.proofs.flat.MildEvents.{AreMild, KeepsPast, access_mild, all_keep, answer_mild, begin_mild, host_mild, mild_append}
+use Rattle.mmu_laws.proofs.flat.MildEvents.{AreMild, KeepsPast, access_mild, all_keep, answer_mild, begin_mild, host_mild, host_run_mild, mild_append}
 use Rattle.mmu_laws.proofs.forms.log.OwnSteps.{own_read}
 use Rattle.mmu_laws.specs.forms.log.ReadSoFar.{ReadSoFar, ReadSoFarAt, HasReadTo, Readings, clears, word_at, words_at}
 use Rattle.mmu_laws.proofs.forms.log.Readings.{read_by, still_read}
@@ -71,8 +72,11 @@ is_others z v a line command p S I other x = by p command (step_knows z v a line
     by place.Between c K may not_so under = absurd under
     by (place.Access q) (Access gfn word op) K may not_so under = record { mild = access_mild q (v.hand a) gfn word op x; takes_not = refl; never = refl }
     by (place.Host q) (ChangeHost page change) K may not_so under = record { mild = host_mild q page change (v.hand a) x; takes_not = refl; never = refl }
+    by (place.HostRun q) (ChangeRun page change) K may not_so under =
+        record { mild = host_run_mild q page change (v.hand a) x; takes_not = refl; never = refl }
     by (place.SlotChange q) c K may not_so under = absurd (not_so (change_is_managers z line.actor c K.0 may))
     by (place.Log q) c K may not_so under = absurd (not_so (log_is_managers z line.actor c (log_knows_reads q c (v.hand a) K) may))
+    by (place.Split q) (Split gfn) K may not_so under = record { mild = split_tells_so AreMild tt (tt, tt) q; takes_not = refl; never = refl }
     by _ _ K may not_so under = absurd K
 
 -- A bit of a log that is set stays so, where no bits are taken.
@@ -152,10 +156,12 @@ reads_not : (p : Place) (command : Command) (h : Held) → KnowsPart p command h
 reads_not place.Between command h K under other = absurd under
 reads_not (place.Access q) (Access gfn word op) h K under other = refl
 reads_not (place.Host q) (ChangeHost page change) h K under other = refl
+reads_not (place.HostRun q) (ChangeRun page change) h K under other = refl
 reads_not (place.SlotChange q) (GetLog id) h K under other = absurd (let changes = K.0 in cc changes)
 reads_not (place.SlotChange q) (ClearLog id first count words) h K under other = absurd (let changes = K.0 in cc changes)
 reads_not (place.SlotChange q) _ h K under other = refl
 reads_not (place.Log q) command h K under other = absurd (cc other)
+reads_not (place.Split q) (Split gfn) h K under other = refl
 reads_not _ _ h K under other = absurd K
 
 own_then : (z : Sizes) (v : View) (f : Flat) (a : ℕ) (line : Line) (command : Command) (p : Place) → IsStep z v a line command p → ReadyLogs z v f
@@ -182,6 +188,8 @@ own_then z v f a line command p S ready kept = by (reading_at p command (v.hand 
     none at (place.Access q) K = tt
     none at (place.SlotChange q) K = tt
     none at (place.Host q) K = tt
+    none at (place.HostRun q) K = tt
+    none at (place.Split q) K = tt
 
     by : (o : Option Reading) → reading_at p command (v.hand a) ≡ o → Then (reading_at g.state.place command g)
     by (Some r) at = own_read z v f a line command p r.command ready S r.place at

@@ -25,7 +25,7 @@ use Rattle.core_views.specs.declared.trace.Command.{Command}
 use Rattle.core_views.specs.Held.{Held}
 use Rattle.core_views.specs.Sizes.{actors_of}
 use Rattle.core_views.specs.SlotCommands.{arms, slot_armed, slot_invalidated}
-use Rattle.core_views.specs.declared.trace.Command.TheVariants.{Access, ChangeHost, ChangeRun, ClearLog, DeleteSlot, GetLog, Migrate, SetLog, SetSlot}
+use Rattle.core_views.specs.declared.trace.Command.TheVariants.{Access, ChangeHost, ChangeRun, ClearLog, DeleteSlot, GetLog, Migrate, SetLog, SetSlot, Split}
 use Rattle.spte_words.specs.Areas.{words_of_bits}
 use Rattle.mmu_core.specs.declared.invalidate.BeginNext.{BeginNext}
 use Rattle.mmu_core.specs.declared.invalidate.BeginNext.TheVariants as begins_next
@@ -70,6 +70,7 @@ invalidates slots (SetSlot id slot) z some = refl
 invalidates slots (DeleteSlot id) z some = refl
 invalidates slots (GetLog id) z some = refl
 invalidates slots (Migrate call) z some = refl
+invalidates slots (Split gfn) z some = refl
 invalidates slots (ClearLog id first count words) z some = refl
 
 arms_some : (slots : MemorySlots) (c : Command) → is_some (slot_armed slots c) ≡ true → arms c ≡ true
@@ -82,6 +83,7 @@ arms_some slots (SetSlot id slot) some = absurd (cc some)
 arms_some slots (DeleteSlot id) some = absurd (cc some)
 arms_some slots (GetLog id) some = absurd (cc some)
 arms_some slots (Migrate call) some = absurd (cc some)
+arms_some slots (Split gfn) some = absurd (cc some)
 arms_some slots (ClearLog id first count words) some = absurd (cc some)
 
 -- after a step of its invalidation's begin, and of its end
@@ -162,7 +164,7 @@ slot_change_nearer (Begin p) h command v R K goes =
     let target = slot_target h command in
     let pages = K.3.pages in
     begun_nearer (begin_next p h.state.sizes target h.topics v) command h.state.sizes (part_topics (begin_part p target h.topics) h.topics v) _
-    (begin_falls p h.state.sizes h.state.sizes.pages target h.topics v (omega (arith, pages)) R.level K.1 goes)
+    (begin_falls p h.state.sizes h.state.sizes.pages target h.topics v (omega (arith, pages)) R.row R.level K.1 goes)
 slot_change_nearer Release h command v R K goes =
     either_place
     (λ q. At q command h.state.sizes (part_topics part.Release h.topics v)

@@ -8,7 +8,8 @@ use Rattle.mmu_laws.proofs.steps.Notes.{notes_tell_ends}
 use Rattle.mmu_laws.proofs.steps.StepLaws.{entering_flushes, others_cache_one, steps_are_on_their_areas}
 use Rattle.mmu_laws.proofs.steps.TouchLaws.{touches_are_told}
 use Rattle.mmu_laws.proofs.laws.steps_tell_what_they_are.Goals as goal
-use Rattle.mmu_laws.proofs.steps.KindLaws.{brings_are_of_absent_pages, changes_are_invalidated, releases_leave_nothing, zaps_are_of_open_invalidations}
+use Rattle.mmu_laws.proofs.steps.ChangeLaws.{changes_are_invalidated}
+use Rattle.mmu_laws.proofs.steps.KindLaws.{brings_are_of_absent_pages, releases_leave_nothing, zaps_are_of_open_invalidations}
 
 pub returns-clause-areas : goal.returns-clause-areas
 returns-clause-areas c = steps_are_on_their_areas

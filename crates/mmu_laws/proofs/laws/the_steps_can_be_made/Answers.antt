@@ -10,9 +10,12 @@ use Rattle.mmu_laws.proofs.forms.log.ExampleManualRun.{example_manual}
 use Rattle.mmu_laws.proofs.steps.ExampleProtectRun.{example_protect}
 use Rattle.mmu_laws.proofs.steps.ExampleEvictRun.{example_evict}
 use Rattle.mmu_laws.proofs.steps.ExampleSlotsRun.{example_slots}
+use Rattle.mmu_laws.proofs.steps.ExampleSplitRun.{example_split}
 use Rattle.mmu_laws.proofs.steps.ExampleMoveRun.{example_move}
 use Rattle.mmu_laws.proofs.steps.ExampleOverlapRun.{example_overlap}
 use Rattle.mmu_laws.proofs.steps.ExampleTightRun.{example_tight}
+use Rattle.mmu_laws.proofs.steps.ExampleSmallRun.{example_small}
+use Rattle.mmu_laws.proofs.steps.ExampleHugeRun.{example_huge}
 use Rattle.mmu_core.specs.machine.Enabled.{mmu}
 use Rattle.mmu_core.specs.machine.Machine.{run}
 use Rattle.mmu_laws.proofs.steps.CanStep.{may_step}
@@ -88,3 +91,12 @@ returns-clause-apart c = example_apart
 
 pub returns-clause-leaf : goal.returns-clause-leaf
 returns-clause-leaf c = example_leaf
+
+pub returns-clause-split : goal.returns-clause-split
+returns-clause-split c = example_split
+
+pub returns-clause-small : goal.returns-clause-small
+returns-clause-small c = example_small
+
+pub returns-clause-huge : goal.returns-clause-huge
+returns-clause-huge c = example_huge

@@ -10,7 +10,7 @@ use Rattle.flat_model.specs.LogSteps.{ReadsLog}
 use Rattle.flat_model.specs.Steps.{Accesses, ChangesHost, ChangesRun, ChangesSlots}
 use Rattle.flat_model.proofs.HostChangeLines.{host_line}
 use Rattle.flat_model.proofs.HostRunLines.{host_run_line}
-use Rattle.flat_model.proofs.FreeLines.{IsFree}
+use Rattle.flat_model.proofs.FreeLines.{IsFree, split_line}
 use Rattle.flat_model.proofs.LogLines.{some_log_line}
 use Rattle.core_views.specs.Migrations.{call_answer}
 use Rattle.flat_model.specs.Copying.{Migrates}
@@ -96,3 +96,6 @@ returns-in-Migrate-clause-gives c =
     IfOk-weaker c.migrate.result (λ answer. Migrates call before after answer (call_answer before.slots before.copies.state call))
     (GivesLine before.sizes line (facts_of before) (facts_of after))
     (λ answer made. migration_line line before after answer call c.in-Migrate.is free made) c.migrate.ensures.migrates
+
+pub returns-in-Split-clause-gives : goal.returns-in-Split-clause-gives
+returns-in-Split-clause-gives c = split_line c.args.line.now c.args.self.now c.in-Split.gfn c.in-Split.is

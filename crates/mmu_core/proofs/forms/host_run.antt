@@ -1,0 +1,11 @@
+pub mod HostRunKept
+pub mod HostRunKnown
+pub mod HostRunLooks
+pub mod HostRunMakes
+pub mod HostRunNeeds
+pub mod HostRunPlaces
+pub mod HostRunRetires
+pub mod HostRunTold
+pub mod RunChanges
+pub mod RunLooks
+pub mod RunTargets

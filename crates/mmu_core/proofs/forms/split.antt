@@ -1,0 +1,5 @@
+pub mod SplitClaims
+pub mod SplitKept
+pub mod SplitKnown
+pub mod SplitPlaces
+pub mod SplitTold

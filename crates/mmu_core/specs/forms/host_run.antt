@@ -1,0 +1,4 @@
+pub mod HostRunSteps
+pub mod HostRunKnows
+pub mod HostRunLeft
+pub mod HostRunForm

@@ -1,0 +1,4 @@
+pub mod SplitSteps
+pub mod SplitKnows
+pub mod SplitLeft
+pub mod SplitForm

@@ -1,0 +1,15 @@
+pub mod HostRunFlat
+pub mod HostRunNearer
+pub mod HostRunReady
+pub mod RunChangers
+pub mod RunChangesFlat
+pub mod RunEvents
+pub mod RunLookNotes
+pub mod RunLookedFlat
+pub mod RunLooksFlat
+pub mod RunNotes
+pub mod RunPageFlat
+pub mod RunRefusals
+pub mod RunTold
+pub mod SeenRows
+pub mod SetRuns

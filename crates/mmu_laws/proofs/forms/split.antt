@@ -1,0 +1,2 @@
+pub mod SplitFlat
+pub mod SplitNearer
