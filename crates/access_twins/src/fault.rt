@@ -236,15 +236,15 @@ fn walk_next(sizes: &Sizes, gfn: u64, write: bool, topics: &Topics, found: u64) 
     }
 }
 
-// After an entry on the way of a fast fault: where it is a leaf of the lowest level that forbids
-// nothing but the write, this is to be allowed.
-fn fast_walk_next(walk: &TableWalk, found: u64) -> FaultPlace
-    ensures { result ≡ fast_walk_next (kind_of walk.now.level found) walk.now found }
+// After an entry of this level on the way of a fast fault: where it is a leaf that forbids
+// nothing but the write, and no large one in a slot with a dirty log, this is to be allowed.
+fn fast_walk_next(level: u8, logged: bool, found: u64) -> FaultPlace
+    ensures { result ≡ fast_walk_next (kind_of level found) level logged found }
 {
     let entry = Spte::from_word(found);
-    match entry.kind(walk.level) {
+    match entry.kind(level) {
         SpteKind::Table(_) => FaultPlace::FastWalk { rooted: true },
-        SpteKind::Leaf if walk.level == 1 && is_fixable(entry) => FaultPlace::Fix,
+        SpteKind::Leaf if (level == 1 || !logged) && is_fixable(entry) => FaultPlace::Fix,
         _ => FaultPlace::End(FaultEnd::NotFast(found)),
     }
 }
@@ -378,7 +378,9 @@ pub fn next(place: FaultPlace, hand: &Hand, gfn: u64, write: bool, found: u64) -
         }
         FaultPlace::Give(end) => FaultPlace::Unshare(end),
         FaultPlace::FastBegin => FaultPlace::FastFind { begun: false },
-        FaultPlace::FastWalk { rooted: true } => fast_walk_next(&topics.walk, found),
+        FaultPlace::FastWalk { rooted: true } => {
+            fast_walk_next(topics.walk.level, topics.search.logged, found)
+        }
         FaultPlace::FastWalk { rooted: false } => FaultPlace::FastWalk { rooted: true },
         FaultPlace::Mark { fast } => over_next(fast, true),
         FaultPlace::Unshare(end) => FaultPlace::End(end),

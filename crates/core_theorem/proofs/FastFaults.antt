@@ -1,7 +1,8 @@
 -- A fast fault that ends with its write allowed has allowed it itself, in the section that it is about to end, and marked the page where its slot has a log;
 -- and another one has found no slot, or no leaf in which it could.
-use Rattle.std.proofs.Common.{◌≡◌, ◌≢◌, ◌⊎◌, ℕ, List, [], ◌∷◌, ◌++◌, inl, inr, refl, ap, subst, ◌∙◌}
+use Rattle.std.proofs.Common.{◌≡◌, ◌≢◌, ◌⊎◌, ℕ, arith, List, [], ◌∷◌, ◌++◌, inl, inr, refl, ap, subst, ◌∙◌}
 use Rattle.std.proofs.lemmas.Bool.{eqb-true}
+use Rattle.std.proofs.lemmas.Bool.Decides.{nat_tests}
 use Rattle.std.specs.Prelude.{Bool, true, false, not, nat_le, nat_lt, ◌==◌, ◌&&◌, ◌||◌, ◌+◌, if◌then◌else◌}
 use Rattle.core_views.specs.declared.kind.Kind.{Kind}
 use Rattle.core_views.specs.declared.place.Cause.TheVariants.{Entry, Moved, Open}
@@ -39,6 +40,7 @@ use Rattle.mmu_core.specs.forms.access.FaultSteps.{search_next}
 use Rattle.mmu_core.specs.forms.access.FaultSteps.{share_next, snapshot_taken}
 use Rattle.mmu_core.specs.machine.Enabled.{mmu}
 use Rattle.mmu_core.specs.machine.Machine.{May, Step, World, answered, found, hand_in, run}
+use Rattle.mmu_core.proofs.forms.access.LeafKnown.{logged_told}
 use Rattle.mmu_core.proofs.start.Starts.{hand_is, start_good}
 use Rattle.mmu_laws.specs.causes.Causes.{HasMade, StaysInSection}
 use Rattle.mmu_laws.proofs.causes.Changes.{made_longer, made_now}
@@ -47,6 +49,7 @@ use Rattle.mmu_laws.proofs.causes.MadeSteps.{Makes, exchange_finds, stays_in, wo
 use Rattle.core_theorem.specs.FastFaults.{AllowsWrite, FixedFaultsHaveAllowed, IsSearchedInVain, MarksFrame, OtherFastFaultsSawWhy, SawNothingToAllow}
 use Rattle.core_theorem.proofs.LookUps.{knows_fault}
 use Rattle.core_theorem.proofs.Runs.{sound}
+use Rattle.part_steps.specs.PartHoldings.{one_mark_tells}
 use Rattle.part_steps.specs.RunHoldings.{maps_run}
 
 -- The actor has allowed the write in the section in which the steps end, and has marked the frame's page there.
@@ -121,7 +124,7 @@ module _ (z : Sizes) (w : World Held) (ss : List (Step Kind)) (s : Step Kind) (G
         made_now (AllowsWrite z a gfn) (StaysInSection a) w ss s (record {
           exchanges = ap (λ (k : Kind). k.code) M.is;
           is_entry = M.needs.saw;
-          lowest = M.needs.lowest;
+          told = logged_told t.walk.level t.search.logged M.needs.told;
           forbids = M.needs.fixable;
           finds = record { by_actor = refl; on = word_on z u s G may (part.Fix gfn) M; finds = is_read };
           leaves = record {
@@ -169,9 +172,9 @@ module _ (z : Sizes) (w : World Held) (ss : List (Step Kind)) (s : Step Kind) (G
     walked entry_kind.Absent write = ended write
     walked entry_kind.Frozen write = tt
 
-    fast_walked : (k : SpteKind) → Now (fast_walk_next k t.walk v)
+    fast_walked : (k : SpteKind) → Now (fast_walk_next k t.walk.level t.search.logged v)
     fast_walked (entry_kind.Table page) = tt
-    fast_walked k = chosen Now (is_fast k t.walk.level v) fault.Fix (fault.End (NotFast v)) tt tt
+    fast_walked k = chosen Now (is_fast k t.walk.level t.search.logged v) fault.Fix (fault.End (NotFast v)) tt tt
 
     -- The search comes to a place with the slot, without one, or goes on.
     searches : (has none : FaultPlace) (more_ : FaultPlace) (loaded : SlotField) (found_ : SlotSearch) → Now has → Now none → Now more_
@@ -254,24 +257,32 @@ fixed_faults_have_allowed z lines w ss R actor there gfn word op marked stands c
 
 -- ---- a fast fault that allows no write
 
-not_both : (lowest writes host mmu_ : Bool) → lowest ≡ true → (not writes && (host && mmu_)) ≡ true
-    → (not lowest || (writes || (not host || not mmu_))) ≡ true → ⊥
+not_both : (told writes host mmu_ : Bool) → told ≡ true → (not writes && (host && mmu_)) ≡ true
+    → (not told || (writes || (not host || not mmu_))) ≡ true → ⊥
 not_both true false true true low fixable forbids = cc forbids
 not_both true false true false low fixable forbids = cc fixable
 not_both true false false mmu_ low fixable forbids = cc fixable
 not_both true true host mmu_ low fixable forbids = cc fixable
 not_both false writes host mmu_ low fixable forbids = cc low
 
+told_by_one : (level : ℕ) (logged : Bool) → (logged ≡ true → level ≡ 1) → one_mark_tells level logged ≡ true
+told_by_one level true low = let one = low refl in grind (arith, nat_tests)
+told_by_one level false low = or_true (level == 1)
+  where
+    or_true : (b : Bool) → (b || true) ≡ true
+    or_true true = refl
+    or_true false = refl
+
 saw_why : (entry gfn : ℕ) (t : Topics) → SawNotFast entry gfn t
-    → ((entry ≡ 0) × IsSearchedInVain gfn t.search) ⊎ SawNothingToAllow entry gfn t.walk
+    → ((entry ≡ 0) × IsSearchedInVain gfn t.search) ⊎ SawNothingToAllow entry gfn t.search t.walk
 saw_why entry gfn t (inl N) =
     inl (N.0, record { over = N.1.over; not_found = λ whole has. N.1.not_found (record { whole = whole; holds = has }) })
 saw_why entry gfn t (inr S) = inr (record {
   is_entry = S.0;
   loaded = S.1;
   stays = λ leaf low fixable.
-      not_both (t.walk.level == 1) (can_write entry) (host_writable entry) (mmu_writable entry) (ap (λ n. n == 1) low) fixable
-      (subst (λ k. forbids_more k t.walk.level entry ≡ true) leaf S.2);
+      not_both (one_mark_tells t.walk.level t.search.logged) (can_write entry) (host_writable entry) (mmu_writable entry)
+      (told_by_one t.walk.level t.search.logged low) fixable (subst (λ k. forbids_more k t.walk.level t.search.logged entry ≡ true) leaf S.2);
 })
 
 pub other_fast_faults_saw_why : OtherFastFaultsSawWhy

@@ -29,12 +29,16 @@ use Rattle.core_theorem.specs.Runs.{AfterEveryRun, InEveryRun}
 abbrev pub walk_in : World Held → ℕ → TableWalk
 walk_in w actor = (hand_in mmu w actor).topics.walk
 
--- The step, made in this world, is this actor's exchange of the guest frame's entry of the lowest level, to which its walk has come. It finds what the walk has
--- loaded there, a leaf that forbids nothing but the write, and leaves this leaf with write permission.
+-- The leaf to which the walk has come isn't a large one in a slot with a dirty log, by what the search has loaded of the slot.
+abbrev pub IsToldByOneMark : SlotSearch → TableWalk → Type 0
+IsToldByOneMark search walk = search.logged ≡ true → walk.level ≡ 1
+
+-- The step, made in this world, is this actor's exchange of the guest frame's entry to which its walk has come. It finds what the walk has loaded there, a leaf
+-- that forbids nothing but the write, and no large one in a slot with a dirty log; and it leaves this leaf with write permission.
 pub record AllowsWrite (z : Sizes) (actor gfn : ℕ) (w : World Held) (s : Step Kind) : Type 0 where
   pub exchanges : s.kind.code ≡ code_of kind.Swap
   pub is_entry : SawEntry gfn (walk_in w actor)
-  pub lowest : (walk_in w actor).level ≡ 1
+  pub told : IsToldByOneMark (hand_in mmu w actor).topics.search (walk_in w actor)
   pub forbids : is_fixable (walk_in w actor).entry ≡ true
   pub finds : Finds actor (entry_word z gfn (walk_in w actor)) (walk_in w actor).entry w s
   pub leaves : Leaves actor (entry_word z gfn (walk_in w actor)) (with_write (walk_in w actor).entry) w s
@@ -58,11 +62,11 @@ pub record IsSearchedInVain (gfn : ℕ) (search : SlotSearch) : Type 0 where
   pub over : search.id ≡ 32
   pub not_found : search.whole ≡ true → contains gfn search.slot ≡ true → ⊥
 
--- The walk has loaded this word as the guest frame's entry, and it is no leaf of the lowest level that forbids nothing but the write.
-pub record SawNothingToAllow (entry gfn : ℕ) (walk : TableWalk) : Type 0 where
+-- The walk has loaded this word as the guest frame's entry, and it is no leaf that forbids nothing but the write, or a large one in a slot with a dirty log.
+pub record SawNothingToAllow (entry gfn : ℕ) (search : SlotSearch) (walk : TableWalk) : Type 0 where
   pub is_entry : SawEntry gfn walk
   pub loaded : walk.entry ≡ entry
-  pub stays : kind_of walk.level entry ≡ Leaf → walk.level ≡ 1 → is_fixable entry ≡ true → ⊥
+  pub stays : kind_of walk.level entry ≡ Leaf → IsToldByOneMark search walk → is_fixable entry ≡ true → ⊥
 
 -- Where a fast fault is about to give up, its search of the slots was in vain, and the word that it tells is 0; or this word is the guest
 -- frame's entry, in which a fast fault can't allow the write.
@@ -71,4 +75,4 @@ OtherFastFaultsSawWhy = AfterEveryRun (λ z w.
     (actor : ℕ) → actor < actors_of z
     → (gfn word : ℕ) (op : Op) (entry : ℕ) → (hand_in mmu w actor).state.place ≡ place.Access (Fault (End (NotFast entry)))
     → (hand_in mmu w actor).state.line.command ≡ Access gfn word op
-    → ((entry ≡ 0) × IsSearchedInVain gfn (hand_in mmu w actor).topics.search) ⊎ SawNothingToAllow entry gfn (walk_in w actor))
+    → ((entry ≡ 0) × IsSearchedInVain gfn (hand_in mmu w actor).topics.search) ⊎ SawNothingToAllow entry gfn (hand_in mmu w actor).topics.search (walk_in w actor))

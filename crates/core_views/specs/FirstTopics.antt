@@ -37,8 +37,8 @@ no_walk = record { level = 0; prefix = 0; root = 0; third = 0; second = 0; first
 abbrev pub no_claim : MapClaim
 no_claim = record { at = 0; seen = 0 }
 
-abbrev pub no_row : HostRow
-no_row = record { looked = 0; alike = false; start = 0; end = 0 }
+abbrev pub makes_no_run : HostRow
+makes_no_run = record { looked = 0; alike = false; start = 0; end = 0 }
 
 -- what an actor holds of each part of the machine before its first step
 abbrev pub first_topics : Topics
@@ -53,7 +53,7 @@ first_topics = record {
   retired = None;
   watched = 0;
   host = None;
-  row = no_row;
+  row = makes_no_run;
   pause = 0;
   owed = None;
   flush = record { asked = 0; awaited = 0 };

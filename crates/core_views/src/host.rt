@@ -1,5 +1,6 @@
-ghost use Rattle.std.specs.Prelude.{◌≡◌};
+ghost use Rattle.std.specs.Prelude.{◌≡◌, ◌≤◌};
 ghost use Rattle.core_views.specs.Host.{is_huge};
+ghost use Rattle.core_views.specs.HostRuns.{run_pages};
 
 /// What the host maps one of its pages to (mmu.rst, "Translation").
 #[derive(Clone, Copy, Drop)]
@@ -22,5 +23,18 @@ impl HostEntry {
         ensures { result ≡ is_huge self.now }
     {
         self.level > 1
+    }
+}
+
+/// How many host pages the run of this level has (mmu.rst, "Large pages").
+pub fn run_pages(level: u8) -> u64
+    ensures pages { result ≡ run_pages level }
+    ensures some { 1 ≤ result }
+    ensures most { result ≤ 262144 }
+{
+    match level {
+        3 => 262144,
+        2 => 512,
+        _ => 1,
     }
 }

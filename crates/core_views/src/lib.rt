@@ -23,7 +23,7 @@ pub use actor::Actor;
 pub use answer::{Answer, Answered, AnsweredLine, Refusal};
 pub use cache::{Cache, Translation};
 pub use event::{Event, EventKind};
-pub use host::HostEntry;
+pub use host::{HostEntry, run_pages};
 pub use kind::{Kind, Operation, StepKind};
 pub use log_commands::WORD_PAGES;
 pub use memory_slot::{MemorySlot, SLOTS};

@@ -21,8 +21,9 @@ pub enum FastFaulted {
     /// The entry of the guest frame allows the access: writes were allowed in the very word that
     /// was read; and the page was marked, in the same section, where the slot has a dirty log.
     Fixed { marked: bool },
-    /// Writes can't be allowed there: the entry, which is this word, isn't a leaf of the lowest
-    /// level that forbids nothing but the write; or no slot has the guest frame, and the word is 0.
+    /// Writes can't be allowed there: the entry, which is this word, isn't a leaf that forbids
+    /// nothing but the write, or is a large one in a slot with a dirty log; or no slot has the
+    /// guest frame, and the word is 0.
     NotFast(u64),
 }
 

@@ -6,7 +6,9 @@ ghost use Rattle.core_views.specs.declared.trace.RunChange.TheVariants.{Huge, Sm
 ghost use Rattle.flat_model.specs.HostPages.{ChangesEntries, ChangesUnlessHuge, IsInReach, Maps, SetsRun, host_of, with_levels};
 
 use crate::free_frames::FreeFrames;
-use core_views::{Actor, Answer, HostChange, HostEntry, NoMemory, Refusal, RunChange, Sizes};
+use core_views::{
+    Actor, Answer, HostChange, HostEntry, NoMemory, Refusal, RunChange, Sizes, run_pages,
+};
 use std::alloc::Global;
 use std::collections::HashMap;
 use std::marker::Model;
@@ -28,18 +30,6 @@ impl Model for HostPages {
     ghost view = { λ h. record { sizes = h.sizes; changed = h.changed.entries } };
 
     ghost invariant = { λ h. AreFree h.sizes.pages (host_of h.changed.entries) h.free };
-}
-
-// How many pages the run of this level has.
-fn run_pages(level: u8) -> u64
-    ensures pages { result ≡ run_pages level }
-    ensures some { 1 ≤ result }
-{
-    match level {
-        3 => 262144,
-        2 => 512,
-        _ => 1,
-    }
 }
 
 /// Whether the pages that the line names are the actor's own: those of the run that is to be

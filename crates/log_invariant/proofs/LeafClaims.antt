@@ -19,7 +19,6 @@ use Rattle.mmu_core.proofs.pages.AllOver.{IsInherited, IsLight, over_weaker}
 use Rattle.mmu_core.proofs.pages.OverSteps.{OfNewLeaf, over_step}
 use Rattle.mmu_core.proofs.pages.Standing.{entry_now, spot_after, up_after}
 use Rattle.mmu_core.proofs.pages.TreeKept.{tree_kept}
-use Rattle.mmu_core.proofs.held.WalkSpans.{one_frame}
 use Rattle.mmu_core.proofs.words.PartWords.{areas_stay}
 use Rattle.mmu_core.specs.invariant.AllOver.{AllOver}
 use Rattle.mmu_core.specs.invariant.RunsPart.{IsInRun}
@@ -57,14 +56,14 @@ leaves_weaker z words IsSo IsThen weaker A up spot T =
 abbrev pub OfNewWrites : PartStep → Topics → View → (ℕ → Type 0) → Type 0
 OfNewWrites (part.Leaf gfn write) t v IsSo =
     entry_now gfn t v ≡ t.walk.entry → can_write (leaf_written gfn write t) ≡ true → (other : ℕ) → IsInRun t.walk.level gfn other → IsSo other
-OfNewWrites (part.Fix gfn) t v IsSo = entry_now gfn t v ≡ t.walk.entry → can_write (leaf_fixed t) ≡ true → IsSo gfn
+OfNewWrites (part.Fix gfn) t v IsSo =
+    entry_now gfn t v ≡ t.walk.entry → can_write (leaf_fixed t) ≡ true → (other : ℕ) → IsInRun t.walk.level gfn other → IsSo other
 OfNewWrites _ t v IsSo = Unit {0}
 
 new_leaf : (z : Sizes) (v : View) (a : ℕ) (step : PartStep) → IsPart z v a step → (IsSo : ℕ → Type 0) → OfNewWrites step (v.hand a).topics v IsSo
     → OfNewLeaf step (v.hand a).topics v (LeafIsGuarded IsSo)
 new_leaf z v a (part.Leaf gfn write) S IsSo new_ = λ won other over leaf writes. new_ won writes other over
-new_leaf z v a (part.Fix gfn) S IsSo new_ = λ won other over was leaf writes.
-    subst IsSo (sym (one_frame (v.hand a).topics.walk.level other gfn S.needs.lowest over)) (new_ won writes)
+new_leaf z v a (part.Fix gfn) S IsSo new_ = λ won other over was leaf writes. new_ won writes other over
 new_leaf z v a (part.Protect gfn) S IsSo new_ = λ found other leaf was left writes.
     absurd (let denies = protected_denies found in cc (denies, writes))
 new_leaf z v a _ S IsSo new_ = tt

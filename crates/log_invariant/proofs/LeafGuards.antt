@@ -15,7 +15,7 @@ use Rattle.log_invariant.proofs.CoveredKept.{AllGuarded, IsGuardedNow, Publishes
 use Rattle.log_invariant.proofs.HeldLogs.{IsLoggedNow, SomeLogIsUnwatched, found_is_logged}
 use Rattle.log_invariant.proofs.LeafClaims.{LeavesAre, OfNewWrites, leaves_weaker, part_leaves, touch_leaves}
 use Rattle.log_invariant.proofs.LogsBegun.{AllSetNow, begun_guarded}
-use Rattle.log_invariant.proofs.OpeningSlot.{opening_is}
+use Rattle.log_invariant.proofs.OpeningSlot.{one_slot, opening_is, opening_over}
 use Rattle.log_invariant.proofs.OwnExcuse.{AllowsAt, PassesAt, PassesOf, change_excuse, passed_there}
 use Rattle.log_invariant.proofs.forms.log.PassedFrames.{topics_made, topics_then}
 use Rattle.log_invariant.proofs.forms.log.LogExcuse.{log_excuse, taken_next}
@@ -33,7 +33,10 @@ use Rattle.mmu_core.proofs.invariant.QuietKept.{MakesAt}
 use Rattle.mmu_core.proofs.forms.access.AccessParts.{AreSmall}
 use Rattle.mmu_core.proofs.lines.KnowsKept.{step_knows, step_leaves}
 use Rattle.mmu_core.proofs.held.WalkSpans.{one_frame}
+use Rattle.mmu_core.proofs.pages.LeavesOver.{leaf_for}
 use Rattle.mmu_core.proofs.pages.PutLeaves.{run_holds}
+use Rattle.mmu_core.proofs.pages.RunLeaves.{run_has}
+use Rattle.mmu_core.proofs.forms.access.LeafKnown.{logged_told}
 use Rattle.mmu_core.proofs.machine.Columns.{same_or, upd_other, upd_same}
 use Rattle.mmu_core.proofs.machine.PartStepping.{is_publish}
 use Rattle.mmu_core.proofs.machine.Stepping.{IsStep}
@@ -45,14 +48,20 @@ use Rattle.mmu_core.specs.lines.PartAt.{task_at}
 use Rattle.mmu_core.specs.forms.slot_change.SlotChangeSteps.{slot_change_part}
 use Rattle.mmu_core.specs.machine.Outcomes.{place_after}
 use Rattle.mmu_core.specs.machine.View.{View, answer_in, hand_after, stepped, words_after}
-use Rattle.part_steps.specs.PartHoldings.{FoundSlot, IsOver}
+use Rattle.part_steps.specs.PartHoldings.{FoundSlot, IsOver, MayFix}
 use Rattle.part_steps.specs.RunHoldings.{MapsRun}
-use Rattle.part_steps.specs.PartTasks.{entry_index, leaf_fixed, leaf_written}
+use Rattle.part_steps.specs.PartTasks.{entry_index, leaf_fixed, leaf_written, table_page}
 use Rattle.part_steps.specs.PartTopics.{exchanged}
 use Rattle.part_steps.specs.declared.part_step.PartStep.TheVariants as part
 use Rattle.part_steps.specs.declared.part_step.PartStep.{PartStep}
 use Rattle.part_steps.specs.declared.task.Task.{Task}
-use Rattle.spte_words.specs.Entries.{can_write}
+use Rattle.spte_words.specs.Entries.{can_write, kind_of}
+use Rattle.spte_words.specs.Areas.{pool_index}
+use Rattle.spte_words.specs.declared.area.Area.TheVariants as area
+use Rattle.spte_words.proofs.ProtectedEntries.{leaf_level}
+use Rattle.mmu_core.proofs.pages.Standing.{entry_now}
+use Rattle.mmu_core.specs.invariant.CachedPart.{IsLeafFor}
+use Rattle.mmu_core.specs.invariant.RunsPart.{IsInRun}
 use Rattle.std.proofs.Common.{◌<◌, ◌≤◌, ◌∙◌, ◌≡◌, ◌≢◌, ◌⊎◌, ap, arith, inl, inr, refl, subst, sym, ℕ}
 use Rattle.std.proofs.lemmas.Bool.{cases_lt}
 use Rattle.std.proofs.lemmas.Bool.Decides.{nat_tests}
@@ -218,6 +227,48 @@ module _ (z : Sizes) (v : View) (a : ℕ) (line : Line) (command : Command) (p :
       ∙ mark_owed (found == h.topics.walk.entry) h.topics.search.logged h.topics.walk gfn new_ h.topics.owed (grind (arith, nat_tests)) logged lowest over
       writes
 
+  -- A slot that has a guest frame of the leaf in which a fast fault has allowed writes has the fault's frame, too.
+  same_slot : (gfn other id : ℕ) (slot : SlotOf) → MayFix gfn h.topics → entry_now gfn h.topics v ≡ h.topics.walk.entry
+      → IsInRun h.topics.walk.level gfn other → IsLoggedNow v id slot → contains other slot ≡ true → contains gfn slot ≡ true
+  same_slot gfn other id slot M won in_run logged holds =
+      subst (λ s. contains gfn s ≡ true) same (run_has L.slot other gfn h.topics.walk.level M.saw.over.there most L.run (sym in_run))
+    where
+      walk : TableWalk
+      walk = h.topics.walk
+
+      most : walk.level ≤ 4
+      most = let low = leaf_level walk.level walk.entry M.leaf in omega (arith, low)
+
+      L : IsLeafFor (v.words area.Pool) (v.words area.Host) (v.words area.Slots 0) walk.level other
+          (v.words area.Pool (pool_index (table_page walk) (entry_index gfn walk.level)))
+      L =
+          leaf_for z v P (table_page walk) walk.level walk.prefix (entry_index gfn walk.level) other ((P.held a S.there).table M.saw.over.there)
+          (omega arith) (let span = M.saw.over.span in omega (arith, in_run, span)) (ap (kind_of walk.level) won ∙ M.leaf)
+
+      same : L.slot ≡ slot
+      same = one_slot z v other L.id id L.slot slot I L.live logged.live L.holds holds
+
+  -- So where the slot has a dirty log the mark that it owes covers the leaf.
+  fix_guards : (gfn other : ℕ) → MayFix gfn h.topics → entry_now gfn h.topics v ≡ h.topics.walk.entry → IsInRun h.topics.walk.level gfn other
+      → (h.topics.search.logged ≡ true → g.topics.owed ≡ Some gfn) → ((slot : SlotOf) → PublishesLog v a command p slot → ⊥)
+      → ((step : PartStep) → part_at p command h ≡ Some step → takes_bits step ≡ false) → AllGuarded z w After other
+  fix_guards gfn other M won in_run owes publishes_none keeps id slot logged holds = by (logged_before z v a line command p small S I P id slot logged)
+    where
+      found_it : IsLoggedNow v id slot → contains gfn slot ≡ true
+          → ((h.topics.search.slot ≡ slot) × (h.topics.search.logged ≡ true)) ⊎ SomeLogIsUnwatched z v gfn → IsGuardedNow z w After slot other
+      found_it was near (inl both) =
+          let lowest : h.topics.walk.level ≡ 1 = logged_told h.topics.walk.level h.topics.search.logged M.told both.1 in
+          let same : gfn ≡ other = sym (one_frame h.topics.walk.level other gfn lowest in_run) in
+          inl (inr (a, S.there, ap (λ (k : Held). k.topics.owed) here ∙ (owes both.1 ∙ ap Some same)))
+      found_it was near (inr O) =
+          opening_guards keeps other id slot was holds (O.0, O.1, opening_over z v O.0 gfn other id slot I O.1 O.2 was.live near holds)
+
+      by : IsLoggedNow v id slot ⊎ PublishesLog v a command p slot → IsGuardedNow z w After slot other
+      by (inl was) =
+          let near = same_slot gfn other id slot M won in_run was holds in
+          found_it was near (found_is_logged z v a gfn id slot S.there I P G M.found was near)
+      by (inr B) = absurd (publishes_none slot B)
+
   -- In a slot with a dirty log a leaf is put at the lowest level.
   lowest_logged : (gfn : ℕ) (t : Topics) → IsOver gfn t.walk → MapsRun gfn t → t.search.logged ≡ true → t.walk.level ≡ 1
   lowest_logged gfn t over R logged = by (cases_lt 1 t.walk.level)
@@ -247,11 +298,12 @@ module _ (z : Sizes) (v : View) (a : ℕ) (line : Line) (command : Command) (p :
       let same : gfn ≡ other = sym (one_frame h.topics.walk.level other gfn lowest in_run) in
       owes gfn (leaf_written gfn write h.topics) _ lowest M.needs.0.saw.over won writes (topics_made v a line command p _ is M.needs) logged ∙ ap Some same)
       (publishes_none (part.Leaf gfn write) is refl) (takes_none (part.Leaf gfn write) is refl)
-  new_writes (part.Fix gfn) is = λ won writes.
+  new_writes (part.Fix gfn) is = λ won writes other in_run id slot logged holds.
       let M = makes (part.Fix gfn) is in
-      new_guards gfn M.needs.found
-      (owes gfn (leaf_fixed h.topics) _ M.needs.lowest M.needs.saw.over won writes (topics_made v a line command p _ is M.needs))
-      (publishes_none (part.Fix gfn) is refl) (takes_none (part.Fix gfn) is refl)
+      fix_guards gfn other M.needs won in_run
+      (λ told. owes gfn (leaf_fixed h.topics) _ (logged_told h.topics.walk.level h.topics.search.logged M.needs.told told) M.needs.saw.over won writes
+      (topics_made v a line command p _ is M.needs) told)
+      (publishes_none (part.Fix gfn) is refl) (takes_none (part.Fix gfn) is refl) id slot logged holds
   new_writes _ is = tt
 
   -- ---- all leaves

@@ -37,6 +37,7 @@ use Rattle.mmu_core.specs.machine.View.{View, answer_in, part_stepped, stepped}
 use Rattle.mmu_core.proofs.invariant.Kept.{makes_at}
 use Rattle.mmu_core.proofs.forms.access.AccessParts.{AreSmall}
 use Rattle.mmu_core.proofs.lines.KnowsKept.{step_knows}
+use Rattle.mmu_core.proofs.forms.access.LeafKnown.{logged_told}
 use Rattle.mmu_core.proofs.forms.access.LeafPut.{logged_lowest, lowest_frame, upper_owes_none}
 use Rattle.mmu_core.proofs.machine.Columns.{at_upd}
 use Rattle.mmu_core.proofs.machine.PartStepping.{IsPart, behind_part}
@@ -153,7 +154,7 @@ marks_after (place.Access (access.Fault fault.Fix)) (Access at word op) h x gfn 
     let t : Topics = h.topics in
     let W = owes_now (x == t.walk.entry) t.search.logged (leaf_fixed t) (entry_index at t.walk.level) gfn t N.owes_none owed in
     marks_next true (x == t.walk.entry) t.search.logged (fault.End (exchange_lost true h.state.sizes at t.walk x)) at word op gfn W.wins W.logged_is
-    (sym (lowest_frame at t.walk N.saw.over N.lowest) ∙ W.frame) (F refl)
+    (sym (lowest_frame at t.walk N.saw.over (logged_told t.walk.level t.search.logged N.told W.logged_is)) ∙ W.frame) (F refl)
 marks_after (place.Access (access.Fault (fault.Mark fast))) (Access at word op) h x gfn K F needs was owed = absurd (cc owed)
 marks_after (place.Access (access.Fault (fault.Leaf writes))) command h x gfn K F needs was owed = absurd K
 marks_after (place.Access (access.Fault fault.Fix)) command h x gfn K F needs was owed = absurd K

@@ -44,6 +44,14 @@ armed_live pool set slots (Migrate call) slot R is = absurd (cc is)
 armed_live pool set slots (Split gfn) slot R is = absurd (cc is)
 armed_live pool set slots (ClearLog id first count words) slot R is = absurd (cc is)
 
+-- Published slots that have one guest frame are one.
+pub one_slot : (z : Sizes) (v : View) (gfn i id : ℕ) (other slot : SlotOf) → Invariant z v → IsLiveIn (v.words area.Pool) (v.words area.Slots 0) i other
+    → IsLiveIn (v.words area.Pool) (v.words area.Slots 0) id slot → contains gfn other ≡ true → contains gfn slot ≡ true → other ≡ slot
+one_slot z v gfn i id other slot I there live has holds =
+    let same : i ≡ id = I.set_part.slots.guest_apart gfn i id there.low live.low there.live live.live (ap (contains gfn) there.is ∙ has)
+    (ap (contains gfn) live.is ∙ holds) in
+    sym there.is ∙ ap (slot_at (v.words area.Pool) (v.words area.Slots 0)) same ∙ live.is
+
 -- Where a line begins the log of a slot with the guest frame, and others may not know of it, this slot is the published one with the guest frame.
 pub opening_is : (z : Sizes) (v : View) (j gfn id : ℕ) (slot : SlotOf) → Invariant z v → j < actors_of z → LogIsUnwatched (v.hand j) gfn
     → IsLiveIn (v.words area.Pool) (v.words area.Slots 0) id slot → contains gfn slot ≡ true
@@ -56,16 +64,23 @@ opening_is z v j gfn id slot I lt O live holds = by h.state.place refl (I.knows 
     set : ℕ
     set = v.words area.Slots 0
 
-    one : (other : SlotOf) (i : ℕ) → IsLiveIn (v.words area.Pool) set i other → contains gfn other ≡ true → other ≡ slot
-    one other i there has =
-        let same : i ≡ id = I.set_part.slots.guest_apart gfn i id there.low live.low there.live live.live (ap (contains gfn) there.is ∙ has)
-        (ap (contains gfn) live.is ∙ holds) in
-        sym there.is ∙ ap (slot_at (v.words area.Pool) set) same ∙ live.is
-
     by : (q : Place) → h.state.place ≡ q → KnowsPart q h.state.line.command h → LogIsUnwatchedAt q h.state.line.command h gfn
         → slot_armed h.slots h.state.line.command ≡ Some slot
     by (place.SlotChange p) at K O =
         let manager = change_hand z j h p h.state.line.command (I.lines j lt) at refl K.0 in
         let L = armed_live (v.words area.Pool) set h.slots h.state.line.command O.1 (I.recorded j lt manager) O.2 in
-        O.2 ∙ ap Some (one O.1 L.0 L.1 O.3)
+        O.2 ∙ ap Some (one_slot z v gfn L.0 id O.1 slot I L.1 live O.3 holds)
     by _ at K O = absurd O
+
+-- So others may not know of the log of another guest frame of that slot either.
+pub opening_over : (z : Sizes) (v : View) (j gfn other id : ℕ) (slot : SlotOf) → Invariant z v → j < actors_of z → LogIsUnwatched (v.hand j) gfn
+    → IsLiveIn (v.words area.Pool) (v.words area.Slots 0) id slot → contains gfn slot ≡ true → contains other slot ≡ true → LogIsUnwatched (v.hand j) other
+opening_over z v j gfn other id slot I lt O live holds also = by h.state.place O (opening_is z v j gfn id slot I lt O live holds)
+  where
+    h : Held
+    h = v.hand j
+
+    by : (q : Place) → LogIsUnwatchedAt q h.state.line.command h gfn → slot_armed h.slots h.state.line.command ≡ Some slot
+        → LogIsUnwatchedAt q h.state.line.command h other
+    by (place.SlotChange p) O begins = (O.0, slot, begins, also)
+    by _ O begins = absurd O

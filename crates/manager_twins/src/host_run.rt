@@ -1,7 +1,7 @@
 //! The steps of a line that maps a run of host pages as one large page, or the pages of one by
 //! themselves (Linux's mmu.rst, "Large pages").
 ghost use Rattle.std.specs.Prelude.{◌≡◌, ◌≤◌, ◌<◌, ◌^◌, Some, true};
-ghost use Rattle.core_views.specs.HostRuns.{owns_run, run_count, run_first, run_pages};
+ghost use Rattle.core_views.specs.HostRuns.{owns_run, run_count, run_first};
 ghost use Rattle.core_views.specs.Sizes.{AreSizes};
 ghost use Rattle.core_views.specs.Traces.{IsRunChange};
 ghost use Rattle.core_views.specs.declared.place.HostRunPlace.TheVariants.{Look};
@@ -18,30 +18,17 @@ ghost use Rattle.part_steps.specs.PartSteps.{PartNeeds};
 
 use core_views::{
     Answer, BeginPlace, EndPlace, HostLook, HostRow, HostRunPlace, PageRun, Place, Progress,
-    Refusal, RunChange, Topics,
+    Refusal, RunChange, Topics, run_pages,
 };
 use mmu_core::{BeginNext, EndNext, Outcome};
 use order_twins::{begin_next, begin_part, end_next, end_part};
 use part_steps::{PartStep, Target};
 use part_twins::{
-    Hand, is_row, is_several, level_looked, looked_on, one_look, run_looked, word_looked, word_next,
+    Hand, makes_run, is_several, level_looked, looked_on, one_look, run_looked, word_looked, word_next,
 };
 use spte_words::{HostWord, Spte};
 
 // ---- the pages of the run
-
-// How many pages the run of a level has.
-fn run_pages(level: u8) -> u64
-    ensures pages { result ≡ run_pages level }
-    ensures some { 1 ≤ result }
-    ensures most { result ≤ 262144 }
-{
-    match level {
-        3 => 262144,
-        2 => 512,
-        _ => 1,
-    }
-}
 
 // Whether the pages that the line names are the actor's own.
 #[tactic(auto, using(mmu_core::proofs::forms::host::HostNeeds::own_low))]
@@ -123,7 +110,7 @@ fn fits(change: RunChange, look: HostLook, row: &HostRow) -> bool
     ensures { result ≡ fits change look row.now }
 {
     match change {
-        RunChange::Huge(level) => is_row(level, look, row),
+        RunChange::Huge(level) => makes_run(level, look, row),
         RunChange::Small => true,
     }
 }

@@ -14,10 +14,10 @@ use Rattle.part_steps.specs.PartTasks.{page_looked, page_to_change}
 use Rattle.part_steps.specs.TopicSteps.{HasRoom}
 
 -- A page this far after the first one of a span is in the span, at this place.
-abbrev StaysIn : ℕ → Type 0
+abbrev pub StaysIn : ℕ → Type 0
 StaysIn s = (first k : ℕ) → k < s → ((first - first % s + k) / s ≡ first / s) × ((first - first % s + k) % s ≡ k)
 
-stays_in : (level : ℕ) → 1 ≤ level → level ≤ 4 → StaysIn (level_span level)
+pub stays_in : (level : ℕ) → 1 ≤ level → level ≤ 4 → StaysIn (level_span level)
 stays_in =
     each_span StaysIn (λ f k low. (omega (arith, low), omega (arith, low))) (λ f k low. (omega (arith, low), omega (arith, low)))
     (λ f k low. (omega (arith, low), omega (arith, low))) (λ f k low. (omega (arith, low), omega (arith, low)))

@@ -36,15 +36,15 @@ looked_on None row page v = row
 looked_on (Some look) row page v = record row { looked = if nat_lt row.looked (level_span 3) then row.looked + 1 else row.looked; alike = continues_row look row page v }
 
 -- So many present pages were looked at in a row as the run of a level has, and page and frame of the first one are the first of such a run each.
-abbrev pub is_row : ℕ → HostLook → HostRow → Bool
-is_row level look row =
+abbrev pub makes_run : ℕ → HostLook → HostRow → Bool
+makes_run level look row =
     (row.alike && (host_present look.word && row.looked == level_span level))
     && (look.page % level_span level == 0 && host_frame look.word % level_span level == 0)
 
 -- the level of the run that may be changed as one: that of the large page which the host maps already, or of the small ones that were looked at in a row
 abbrev pub level_looked : HostLook → HostRow → ℕ
 level_looked look row =
-    if nat_lt 1 (host_level look.word) then host_level look.word else if is_row 3 look row then 3 else if is_row 2 look row then 2 else 1
+    if nat_lt 1 (host_level look.word) then host_level look.word else if makes_run 3 look row then 3 else if makes_run 2 look row then 2 else 1
 
 -- ---- runs
 

@@ -1,5 +1,5 @@
 -- What a hand holds that a step of a part needs: of pages, of the walk, of the look-up and of the invalidations.
-use Rattle.std.specs.Prelude.{◌≡◌, ◌≢◌, ◌+◌, ◌-◌, ◌/◌, ◌^◌, ◌<◌, ◌≤◌, ◌⊎◌, ℕ, Bool, true, false, ◌==◌, ◌&&◌, not, if◌then◌else◌, Some, None, is_some}
+use Rattle.std.specs.Prelude.{◌≡◌, ◌≢◌, ◌+◌, ◌-◌, ◌/◌, ◌^◌, ◌<◌, ◌≤◌, ◌⊎◌, ℕ, Bool, true, false, ◌==◌, ◌&&◌, ◌||◌, not, if◌then◌else◌, Some, None, is_some}
 use Rattle.core_views.specs.declared.topics.Checked.TheVariants as checked
 use Rattle.core_views.specs.declared.topics.Hold.TheVariants.{Loose, Shared}
 use Rattle.core_views.specs.declared.topics.Invalidations.{Invalidations}
@@ -114,13 +114,18 @@ IsEnd level w = (page : ℕ) → 2 ≤ level → w ≢ table_word page
 abbrev pub is_fixable : ℕ → Bool
 is_fixable w = not (can_write w) && (host_writable w && mmu_writable w)
 
--- A fast fault may allow writes in the guest frame's leaf: in a section, without the lock, it found the slot, and saw that the leaf forbids them alone.
+-- One mark in the dirty log tells all that a leaf of the level allows to write: it is of the lowest level, or its slot has no log.
+abbrev pub one_mark_tells : ℕ → Bool → Bool
+one_mark_tells level logged = (level == 1) || not logged
+
+-- A fast fault may allow writes in the guest frame's leaf: in a section, without the lock, it found the slot, and saw that the leaf forbids them alone; and it
+-- isn't a large one in a slot with a dirty log.
 pub record MayFix (gfn : ℕ) (t : Topics) : Type 0 where
   pub section : t.stay ≡ Section
   pub loose : t.hold ≡ Loose
   pub found : FoundSlot gfn t
   pub saw : SawEntry gfn t.walk
-  pub lowest : t.walk.level ≡ 1
+  pub told : one_mark_tells t.walk.level t.search.logged ≡ true
   pub leaf : kind_of t.walk.level t.walk.entry ≡ Leaf
   pub fixable : is_fixable t.walk.entry ≡ true
   pub owes_none : t.owed ≡ None

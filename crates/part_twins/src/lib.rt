@@ -19,6 +19,6 @@ pub use slot_words::{SLOT_SET_ROLE, is_fixable, page_of, set_word};
 pub use task::kind_of;
 pub use topic_twins::{
     WRITER, entry_index, frame_owned, has_entry, has_to_flush, has_writer, in_section, is_done,
-    is_row, is_several, is_won, level_looked, looked_on, one_look, run_looked, search, step_topics,
-    sweep_on, swept_to, word_next, words_moved,
+    is_several, is_won, level_looked, looked_on, makes_run, one_look, run_looked, search,
+    step_topics, sweep_on, swept_to, word_next, words_moved,
 };

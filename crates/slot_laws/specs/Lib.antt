@@ -2,3 +2,4 @@ pub mod SlotRules
 pub mod Starving
 pub mod DoneLines
 pub mod OneChange
+pub mod RunLines

@@ -16,7 +16,7 @@ pub use control_words::{
 pub use frames::{frame_owned, word_held, words_moved};
 pub use invalidations::{has_found_looked, run_aimed};
 pub use page_runs::{
-    is_row, is_several, level_looked, looked_on, one_look, page_next, run_looked, word_given,
+    is_several, level_looked, looked_on, makes_run, one_look, page_next, run_looked, word_given,
     word_next, word_seen,
 };
 pub use spans::{entry_index, span_of};

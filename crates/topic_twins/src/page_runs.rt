@@ -3,7 +3,7 @@
 //! are changed, one after another.
 ghost use Rattle.std.specs.Prelude.{◌≡◌, ◌≤◌, ◌<◌, ◌+◌, ◌^◌, ◌==◌, true, Some};
 ghost use Rattle.core_views.specs.declared.topics.PageRun.{PageRun};
-ghost use Rattle.part_steps.specs.PageRuns.{capped, changed_more, continues_row, covering, has_part, is_row, is_several, is_single, level_looked, level_put};
+ghost use Rattle.part_steps.specs.PageRuns.{capped, changed_more, continues_row, covering, has_part, makes_run, is_several, is_single, level_looked, level_put};
 ghost use Rattle.part_steps.specs.PageRuns.{looked_on, one_look, page_next, part_end, part_start, run_looked, run_of, run_start, widened};
 ghost use Rattle.part_steps.specs.PageRuns.{word_given, word_seen};
 ghost use Rattle.part_steps.specs.PartTasks.{page_to_change, word_next};
@@ -69,10 +69,10 @@ pub fn looked_on(host: Option<HostLook>, row: &HostRow, page: u64, found: u64) -
 /// Whether so many present pages were looked at in a row as the run of a level has, and page and
 /// frame of the first one are the first of such a run each.
 #[tactic(auto, using(spte_words::proofs::Spans::span_positive))]
-pub fn is_row(level: u8, look: HostLook, row: &HostRow) -> bool
+pub fn makes_run(level: u8, look: HostLook, row: &HostRow) -> bool
     requires from { 1 ≤ level }
     requires to { level ≤ 4 }
-    ensures { result ≡ is_row level look row.now }
+    ensures { result ≡ makes_run level look row.now }
 {
     let span = Spte::level_span(level);
     let word = HostWord::from_word(look.word);
@@ -93,9 +93,9 @@ pub fn level_looked(look: HostLook, row: &HostRow) -> u8
     let level = HostWord::from_word(look.word).level();
     if level > 1 {
         level
-    } else if is_row(3, look, row) {
+    } else if makes_run(3, look, row) {
         3
-    } else if is_row(2, look, row) {
+    } else if makes_run(2, look, row) {
         2
     } else {
         1

@@ -115,6 +115,7 @@ leaf_same pool host set page word level gfn leaf L same = record {
   slot = L.slot;
   live = L.live;
   holds = L.holds;
+  run = L.run;
   writes = L.writes;
   first = L.first;
   is = L.is ∙ ap (leaf_at level L.first L.writes L.slot) (sym stays);

@@ -14,7 +14,7 @@ use Rattle.mmu_core.specs.invariant.RunsPart.{IsChanging, IsOfOwnPages}
 use Rattle.mmu_core.specs.invariant.TopicsInvariant.{TopicsInvariant}
 use Rattle.mmu_core.specs.machine.View.{View}
 use Rattle.mmu_core.proofs.held.OwnPages.{OwnWords, own_words}
-use Rattle.mmu_core.proofs.words.RunSpans.{next_on_run}
+use Rattle.part_steps.proofs.PageRuns.{next_on_run}
 
 -- The word of the page that is changed next is the one that was seen of it.
 abbrev pub NextSeen : Held → (ℕ → ℕ) → Type 0

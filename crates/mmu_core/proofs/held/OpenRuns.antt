@@ -26,7 +26,7 @@ use Rattle.mmu_core.proofs.held.LargeRows.{IsInLarge, in_large}
 use Rattle.mmu_core.proofs.held.OwnRowsKept.{further_level, further_present}
 use Rattle.mmu_core.proofs.held.PageRuns.{this_page}
 use Rattle.mmu_core.proofs.held.RowRuns.{IsWholeRow, LevelLooked, aimed_look, level_bounds, level_told, row_word, whole_row}
-use Rattle.mmu_core.proofs.held.RowRuns.LevelLooked.{Large, One, Row}
+use Rattle.mmu_core.proofs.held.RowRuns.LevelLooked.{Large, One, Several}
 use Rattle.mmu_core.proofs.machine.PartStepping.{IsPart}
 use Rattle.mmu_core.proofs.words.HostStays.{still_level}
 use Rattle.mmu_core.proofs.words.RunSpans.{on_run}
@@ -178,5 +178,5 @@ module _ (z : Sizes) (v : View) (a count : ℕ) (S : IsPart z v a (part.SetCount
     where
       by : LevelLooked look t.row → IsOpened
       by (Large more level) = of_large more level
-      by (Row level from to small row told) = of_row level from to small (whole_row level look t.row row) told
+      by (Several level from to small row told) = of_row level from to small (whole_row level look t.row row) told
       by (One small told) = of_one small told

@@ -10,7 +10,7 @@ use Rattle.spte_words.specs.Entries.{level_span}
 use Rattle.spte_words.specs.HostWords.{host_allows_write, host_frame, host_level, host_present, host_word}
 use Rattle.spte_words.proofs.Spans.{span_positive}
 use Rattle.part_steps.specs.InvalidationRange.{run_of_look}
-use Rattle.part_steps.specs.PageRuns.{is_row, level_looked, run_looked, word_in_row}
+use Rattle.part_steps.specs.PageRuns.{makes_run, level_looked, run_looked, word_in_row}
 use Rattle.mmu_core.specs.invariant.HostWordsPart.{IsHostWord, owns_page}
 use Rattle.mmu_core.specs.invariant.RunsPart.{IsInRun, IsOneRun, IsOwnRow}
 use Rattle.mmu_core.proofs.forms.access.FaultSame.{both}
@@ -28,28 +28,28 @@ aimed_look false (Some look) row run is = (look, refl, sym (cc is))
 
 pub data LevelLooked (look : HostLook) (row : HostRow) : Type 0 where
   Large : 1 < host_level look.word → level_looked look row ≡ host_level look.word → LevelLooked look row
-  Row : (level : ℕ) → 2 ≤ level → level ≤ 3 → host_level look.word ≤ 1 → is_row level look row ≡ true → level_looked look row ≡ level → LevelLooked look row
+  Several : (level : ℕ) → 2 ≤ level → level ≤ 3 → host_level look.word ≤ 1 → makes_run level look row ≡ true → level_looked look row ≡ level → LevelLooked look row
   One : host_level look.word ≤ 1 → level_looked look row ≡ 1 → LevelLooked look row
 
 pub level_told : (look : HostLook) (row : HostRow) → LevelLooked look row
-level_told look row = by (nat_lt 1 (host_level look.word)) (is_row 3 look row) (is_row 2 look row) refl refl refl
+level_told look row = by (nat_lt 1 (host_level look.word)) (makes_run 3 look row) (makes_run 2 look row) refl refl refl
   where
-    told : (a b c : Bool) → nat_lt 1 (host_level look.word) ≡ a → is_row 3 look row ≡ b → is_row 2 look row ≡ c
+    told : (a b c : Bool) → nat_lt 1 (host_level look.word) ≡ a → makes_run 3 look row ≡ b → makes_run 2 look row ≡ c
         → level_looked look row ≡ (if a then host_level look.word else if b then 3 else if c then 2 else 1)
     told a b c one two three =
-        ap (λ (x : Bool). if x then host_level look.word else if is_row 3 look row then 3 else if is_row 2 look row then 2 else 1) one
-        ∙ ap (λ (x : Bool). if a then host_level look.word else if x then 3 else if is_row 2 look row then 2 else 1) two
+        ap (λ (x : Bool). if x then host_level look.word else if makes_run 3 look row then 3 else if makes_run 2 look row then 2 else 1) one
+        ∙ ap (λ (x : Bool). if a then host_level look.word else if x then 3 else if makes_run 2 look row then 2 else 1) two
         ∙ ap (λ (x : Bool). if a then host_level look.word else if b then 3 else if x then 2 else 1) three
 
-    by : (a b c : Bool) → nat_lt 1 (host_level look.word) ≡ a → is_row 3 look row ≡ b → is_row 2 look row ≡ c → LevelLooked look row
+    by : (a b c : Bool) → nat_lt 1 (host_level look.word) ≡ a → makes_run 3 look row ≡ b → makes_run 2 look row ≡ c → LevelLooked look row
     by true b c one two three = Large (grind (arith, nat_tests)) (told true b c one two three)
-    by false true c one two three = Row 3 (omega arith) (omega arith) (grind (arith, nat_tests)) two (told false true c one two three)
-    by false false true one two three = Row 2 (omega arith) (omega arith) (grind (arith, nat_tests)) three (told false false true one two three)
+    by false true c one two three = Several 3 (omega arith) (omega arith) (grind (arith, nat_tests)) two (told false true c one two three)
+    by false false true one two three = Several 2 (omega arith) (omega arith) (grind (arith, nat_tests)) three (told false false true one two three)
     by false false false one two three = One (grind (arith, nat_tests)) (told false false false one two three)
 
 pub level_bounds : (look : HostLook) (row : HostRow) → LevelLooked look row → (1 ≤ level_looked look row) × (level_looked look row ≤ 3)
 level_bounds look row (Large more is) = let low = level_low look.word in (omega (arith, is, more), omega (arith, is, low))
-level_bounds look row (Row level from to small is_it is) = (omega (arith, is, from), omega (arith, is, to))
+level_bounds look row (Several level from to small is_it is) = (omega (arith, is, from), omega (arith, is, to))
 level_bounds look row (One small is) = (omega (arith, is), omega (arith, is))
 
 -- ---- words of pages that are mapped as one
@@ -103,7 +103,7 @@ pub record IsWholeRow (level : ℕ) (look : HostLook) (row : HostRow) : Type 0 w
   pub looked : row.looked ≡ level_span level
   pub begins : look.page % level_span level ≡ 0
 
-pub whole_row : (level : ℕ) (look : HostLook) (row : HostRow) → is_row level look row ≡ true → IsWholeRow level look row
+pub whole_row : (level : ℕ) (look : HostLook) (row : HostRow) → makes_run level look row ≡ true → IsWholeRow level look row
 whole_row level look row is =
     let one = both (row.alike && (host_present look.word && row.looked == level_span level)) _ is in
     let two = both row.alike _ one.0 in

@@ -13,7 +13,8 @@ use Rattle.part_steps.specs.PageRuns.{IsOnRun, capped, greater, has_part, lesser
 use Rattle.mmu_core.specs.invariant.InvalidatedPart.{GivesOne}
 use Rattle.mmu_core.specs.invariant.SlotSetPart.{IsLiveIn}
 use Rattle.mmu_core.proofs.forms.access.FaultSame.{both, over_it}
-use Rattle.mmu_core.proofs.words.RunSpans.{on_run, span_goes}
+use Rattle.part_steps.proofs.PageRuns.{stays_in}
+use Rattle.mmu_core.proofs.words.RunSpans.{on_run}
 
 -- ---- the lesser and the greater
 
@@ -78,7 +79,7 @@ module _ (pool : ℕ → ℕ) (set : ℕ) (run : PageRun) (from : 1 ≤ run.leve
   given id page gfn L low high above below is = (
     page,
     subst (λ p. IsOnRun p (Some run)) (let all : run_start run + (page - run_start run) ≡ page = omega (arith, low) in all)
-        (span_goes run.level from (omega (arith, to)) run.first (page - run_start run) (omega (arith, low, high))).0,
+        (stays_in run.level from (omega (arith, to)) run.first (page - run_start run) (omega (arith, low, high))).0,
     record {
       id = id;
       slot = slot;

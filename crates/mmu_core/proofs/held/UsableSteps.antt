@@ -72,6 +72,7 @@ agree_published pool host vcpus set page t cached stay clean agrees k d lt gfn o
       live = by L.slot (stay L.id L.slot L.live) L.holds;
       holds = L.holds;
       writes = L.writes;
+      run = L.run;
       first = L.first;
       is = L.is;
       frame = L.frame;

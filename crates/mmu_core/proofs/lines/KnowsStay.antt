@@ -218,16 +218,17 @@ cause_stays (Entry word read seen) z gfn t x = by (moved_or_not word read seen z
     by (inr never) = inl (way_stays word read seen z gfn t.walk (∥∥₁_map x (⊎_elim (λ way. way) (λ moves. absurd (never moves)))))
 cause_stays _ z gfn t x = prop_stays (hlevel props) x
 
-lost_stays : (cause : Cause) (z : Sizes) (gfn : ℕ) (walk : TableWalk) → ∥ IsLostFix cause z gfn walk ∥₁ → IsLostFix cause z gfn walk
-lost_stays (Entry word read seen) z gfn walk x = prop_stays (hlevel props) x
-lost_stays _ z gfn walk x = prop_stays (hlevel props) x
+lost_stays : (cause : Cause) (z : Sizes) (gfn : ℕ) (walk : TableWalk) (logged : Bool) → ∥ IsLostFix cause z gfn walk logged ∥₁
+    → IsLostFix cause z gfn walk logged
+lost_stays (Entry word read seen) z gfn walk logged x = prop_stays (hlevel props) x
+lost_stays _ z gfn walk logged x = prop_stays (hlevel props) x
 
 end_stays : (e : FaultEnd) (z : Sizes) (gfn : ℕ) (write : Bool) (t : Topics) → ∥ FaultEndKnows e z gfn write t ∥₁ → FaultEndKnows e z gfn write t
 end_stays Mmio z gfn write t x = no_page_stays gfn write t x
 end_stays HostFault z gfn write t x = forbids_stays gfn write t x
 end_stays (NotFast word) z gfn write t x = not_fast_stays word gfn t x
 end_stays (Retry fast cause) z gfn write t x =
-    record { has = cause_stays cause z gfn t (∥∥₁_map x (λ K. K.has)); lost = λ is. lost_stays cause z gfn t.walk (∥∥₁_map x (λ K. K.lost is)) }
+    record { has = cause_stays cause z gfn t (∥∥₁_map x (λ K. K.has)); lost = λ is. lost_stays cause z gfn t.walk t.search.logged (∥∥₁_map x (λ K. K.lost is)) }
 end_stays _ z gfn write t x = prop_stays (hlevel props) x
 
 retry_stays : (e : FaultEnd) → ∥ IsRetry e ∥₁ → IsRetry e

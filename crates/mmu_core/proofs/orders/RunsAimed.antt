@@ -16,7 +16,7 @@ use Rattle.spte_words.proofs.Spans.{span_2, span_3}
 use Rattle.part_steps.specs.declared.invalidations.Target.{Target}
 use Rattle.part_steps.specs.declared.part_step.PartStep.TheVariants as part
 use Rattle.part_steps.specs.InvalidationRange.{page_looked, run_aimed, run_of_look, run_searched}
-use Rattle.part_steps.specs.PageRuns.{covering, is_row, level_looked, run_looked, run_of}
+use Rattle.part_steps.specs.PageRuns.{covering, makes_run, level_looked, run_looked, run_of}
 use Rattle.part_steps.specs.PageTopics.{searched}
 use Rattle.part_steps.specs.PartTasks.{word_looked}
 use Rattle.part_steps.specs.PartTopics.{part_topics}
@@ -44,8 +44,8 @@ first_aimed false None row run is = absurd (cc is)
 first_aimed false (Some look) row run is = sym (first_looked look row) ∙ ap (first_or look.page) is
 
 -- So many pages are no row of a level that has another number of them.
-pub no_row : (level n : ℕ) (look : HostLook) (row : HostRow) → row.looked ≡ n → (n == level_span level) ≡ false → is_row level look row ≡ false
-no_row level n look row looked more =
+pub makes_no_run : (level n : ℕ) (look : HostLook) (row : HostRow) → row.looked ≡ n → (n == level_span level) ≡ false → makes_run level look row ≡ false
+makes_no_run level n look row looked more =
     by row.alike (host_present look.word) (look.page % level_span level == 0 && host_frame look.word % level_span level == 0)
     (ap (λ m. m == level_span level) looked ∙ more)
   where
@@ -57,9 +57,9 @@ no_row level n look row looked more =
 -- A small page that was looked at alone is a run of its own.
 pub lowest_looked : (look : HostLook) (row : HostRow) → row.looked ≡ 1 → nat_lt 1 (host_level look.word) ≡ false → level_looked look row ≡ 1
 lowest_looked look row alone small =
-    ap (λ (b : Bool). if b then host_level look.word else if is_row 3 look row then 3 else if is_row 2 look row then 2 else 1) small
-    ∙ ap (λ (b : Bool). if b then 3 else if is_row 2 look row then 2 else 1) (no_row 3 1 look row alone (ap (λ n. 1 == n) span_3))
-    ∙ ap (λ (b : Bool). if b then 2 else 1) (no_row 2 1 look row alone (ap (λ n. 1 == n) span_2))
+    ap (λ (b : Bool). if b then host_level look.word else if makes_run 3 look row then 3 else if makes_run 2 look row then 2 else 1) small
+    ∙ ap (λ (b : Bool). if b then 3 else if makes_run 2 look row then 2 else 1) (makes_no_run 3 1 look row alone (ap (λ n. 1 == n) span_3))
+    ∙ ap (λ (b : Bool). if b then 2 else 1) (makes_no_run 2 1 look row alone (ap (λ n. 1 == n) span_2))
 
 pub one_looked : (look : HostLook) (row : HostRow) → level_looked look row ≡ 1 → run_looked look row ≡ run_of look.page
 one_looked look row lowest =

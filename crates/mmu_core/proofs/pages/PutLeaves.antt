@@ -23,7 +23,7 @@ use Rattle.mmu_core.specs.invariant.TopicsInvariant.{TopicsInvariant}
 use Rattle.mmu_core.specs.machine.View.{View}
 use Rattle.mmu_core.proofs.held.FreshFrames.{looked_word}
 use Rattle.mmu_core.proofs.machine.PartStepping.{IsPart}
-use Rattle.mmu_core.proofs.pages.RunLeaves.{between, holds_between, none_meets, run_leaf, run_places}
+use Rattle.mmu_core.proofs.pages.RunLeaves.{between, none_meets, run_has, run_leaf}
 
 -- A guest frame of the slot is a run of its own.
 one_run : (level gfn : ℕ) (slot : SlotOf) → level ≡ 1 → contains gfn slot ≡ true → HasRun level gfn slot
@@ -47,10 +47,7 @@ run_found gfn t M R = by (cases_lt 1 t.walk.level)
 -- So it has each guest frame of the run.
 pub run_holds : (gfn other : ℕ) (t : Topics) → MayEnter gfn t → MapsRun gfn t → IsInRun t.walk.level gfn other → contains other t.search.slot ≡ true
 run_holds gfn other t M R in_run =
-    let run = run_found gfn t M R in
-    let P = run_places t.walk.level M.saw.over.there (let most = R.most in omega (arith, most)) t.search.slot.base t.search.slot.pages t.search.slot.host gfn
-    other in_run run.from run.to run.alike in
-    holds_between t.search.slot other P.0 P.1
+    run_has t.search.slot gfn other t.walk.level M.saw.over.there (let most = R.most in omega (arith, most)) (run_found gfn t M R) in_run
 
 module _ (z : Sizes) (v : View) (a gfn : ℕ) (write : Bool) (other : ℕ) (S : IsPart z v a (part.Leaf gfn write)) (I : TopicsInvariant z v) where
   abbrev held : Topics

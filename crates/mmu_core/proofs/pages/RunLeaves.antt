@@ -79,6 +79,31 @@ between slot gfn holds = by slot.base slot.pages holds
     by : (base pages : ℕ) → (nat_le base gfn && nat_lt gfn (base + pages)) ≡ true → (base ≤ gfn) × (gfn < base + pages)
     by base pages is = (grind (arith, nat_tests), grind (arith, nat_tests))
 
+-- A slot that has the run of a guest frame whole has it as the run of each frame in it.
+abbrev RunOfEach : ℕ → Type 0
+RunOfEach s =
+    (base pages host gfn other : ℕ) → other / s ≡ gfn / s → base + gfn % s ≤ gfn → gfn + s ≤ base + pages + gfn % s → (host + (gfn - base)) % s ≡ gfn % s
+    → (base + other % s ≤ other) × (other + s ≤ base + pages + other % s)
+
+run_of_each : (level : ℕ) → 1 ≤ level → level ≤ 4 → RunOfEach (level_span level)
+run_of_each =
+    each_span RunOfEach (λ b p h g o run from to at. (omega (arith, run, from), omega (arith, run, from, to)))
+    (λ b p h g o run from to at. (omega (arith, run, from), omega (arith, run, from, to)))
+    (λ b p h g o run from to at. (omega (arith, run, from), omega (arith, run, from, to)))
+    (λ b p h g o run from to at. (omega (arith, run, from), omega (arith, run, from, to)))
+
+pub run_of_other : (slot : SlotOf) (gfn other level : ℕ) → 1 ≤ level → level ≤ 4 → HasRun level gfn slot → other / level_span level ≡ gfn / level_span level
+    → HasRun level other slot
+run_of_other slot gfn other level from most run in_run =
+    let E = run_of_each level from most slot.base slot.pages slot.host gfn other in_run run.from run.to run.alike in
+    let P = run_places level from most slot.base slot.pages slot.host gfn other in_run run.from run.to run.alike in
+    record { from = E.0; to = E.1; alike = P.3 }
+
+pub run_has : (slot : SlotOf) (gfn other level : ℕ) → 1 ≤ level → level ≤ 4 → HasRun level gfn slot → other / level_span level ≡ gfn / level_span level
+    → contains other slot ≡ true
+run_has slot gfn other level from most run in_run =
+    let P = run_places level from most slot.base slot.pages slot.host gfn other in_run run.from run.to run.alike in holds_between slot other P.0 P.1
+
 -- The guest frame that a slot gives to a host page is one of the slot's, and the page is this frame's.
 given_back : (slot : SlotOf) (page gfn : ℕ) → has_host_page page slot ≡ true → gfn ≡ gfn_behind page slot
     → (contains gfn slot ≡ true) × (page_of slot gfn ≡ page)
@@ -233,6 +258,7 @@ module _ (z : Sizes) (v : View) (a level gfn : ℕ) (there : a < actors_of z) (I
     slot = slot;
     live = live;
     holds = holds other in_run;
+    run = run_of_other slot gfn other level from most run in_run;
     writes = writes;
     first = first;
     is = ap (leaf_at level first writes slot) looked ∙ ap by_writes (sym A.writes);

@@ -1,7 +1,8 @@
 -- A large leaf, in whose place a table of its children is linked: each child says of its guest frames what the leaf said.
-use Rattle.std.proofs.Common.{◌≡◌, ◌≢◌, ◌⊎◌, inl, inr, ◌+◌, ◌-◌, ◌*◌, ◌/◌, ◌^◌, ◌<◌, ◌≤◌, ℕ, zero, suc, sym, subst, ap, ◌∙◌, arith}
+use Rattle.std.proofs.Common.{◌≡◌, ◌≢◌, ◌⊎◌, inl, inr, ◌+◌, ◌-◌, ◌*◌, ◌/◌, ◌%◌, ◌^◌, ◌<◌, ◌≤◌, ℕ, zero, suc, sym, subst, ap, ◌∙◌, arith}
 use Rattle.std.specs.Prelude.{true, false, ◌&&◌, Some}
 use Rattle.std.proofs.Math.Nat.{div-div-eq-div-mul}
+use Rattle.core_views.specs.declared.trace.Slot.{Slot as SlotOf}
 use Rattle.spte_words.specs.declared.spte_kind.SpteKind.TheVariants.{Leaf}
 use Rattle.spte_words.specs.Areas.{pool_index}
 use Rattle.spte_words.specs.Entries.{child_over, child_word, kind_of, level_span, table_word}
@@ -9,8 +10,9 @@ use Rattle.spte_words.specs.HostWords.{host_allows_write}
 use Rattle.spte_words.proofs.ChildEntries.{place_in_child}
 use Rattle.spte_words.proofs.Indices.{same_pool_word}
 use Rattle.spte_words.proofs.ReadsEntries.{child_of_leaf}
-use Rattle.spte_words.proofs.Spans.{span_above}
+use Rattle.spte_words.proofs.Spans.{each_span, span_above}
 use Rattle.part_steps.specs.PartTasks.{entry_index}
+use Rattle.part_steps.specs.RunHoldings.{HasRun}
 use Rattle.part_steps.specs.SlotWords.{may_write, page_of}
 use Rattle.mmu_core.specs.invariant.AllOver.{AllOver, IsEntryOver, LeafIsFor}
 use Rattle.mmu_core.specs.invariant.CachedPart.{IsLeafFor}
@@ -22,6 +24,28 @@ use Rattle.mmu_core.proofs.pages.AllOver.{IsInherited, IsLight, more_below, reac
 use Rattle.mmu_core.proofs.pages.Standing.{spot_of}
 use Rattle.mmu_core.proofs.words.HostFrames.{first_small}
 
+-- A slot that has the whole span of a level has that of the level below.
+abbrev HasLess : ℕ → Type 0
+HasLess s =
+    (gfn base pages page : ℕ) → base + gfn % (512 * s) ≤ gfn → gfn + 512 * s ≤ base + pages + gfn % (512 * s) → page % (512 * s) ≡ gfn % (512 * s)
+    → (base + gfn % s ≤ gfn) × (gfn + s ≤ base + pages + gfn % s) × (page % s ≡ gfn % s)
+
+has_less : (level : ℕ) → 1 ≤ level → level ≤ 4 → HasLess (level_span level)
+has_less =
+    each_span HasLess (λ g b n p from to at. (omega (arith, from), omega (arith, to), omega (arith, at)))
+    (λ g b n p from to at. (omega (arith, from), omega (arith, to), omega (arith, at)))
+    (λ g b n p from to at. (omega (arith, from), omega (arith, to), omega (arith, at)))
+    (λ g b n p from to at. (omega (arith, from), omega (arith, to), omega (arith, at)))
+
+child_run : (level gfn : ℕ) (slot : SlotOf) → 2 ≤ level → level ≤ 4 → HasRun level gfn slot → HasRun (level - 1) gfn slot
+child_run level gfn slot upper most R =
+    let span : level_span level ≡ 512 * level_span (level - 1) =
+    ap level_span (let up : level ≡ level - 1 + 1 = omega (arith, upper) in up) ∙ span_above (level - 1) (omega (arith, upper)) in
+    let less = has_less (level - 1) (omega (arith, upper)) (omega (arith, most)) gfn slot.base slot.pages (page_of slot gfn)
+    (subst (λ s. slot.base + gfn % s ≤ gfn) span R.from) (subst (λ s. gfn + s ≤ slot.base + slot.pages + gfn % s) span R.to)
+    (subst (λ s. page_of slot gfn % s ≡ gfn % s) span R.alike) in
+    record { from = less.0; to = less.1; alike = less.2 }
+
 -- The child of a leaf that slots and host give is one that they give.
 pub child_leaf : (pool host : ℕ → ℕ) (set level gfn leaf : ℕ) → 2 ≤ level → level ≤ 4 → IsLeafFor pool host set level gfn leaf
     → IsLeafFor pool host set (level - 1) gfn (child_over level leaf gfn)
@@ -30,6 +54,7 @@ child_leaf pool host set level gfn leaf upper most L = record {
   slot = L.slot;
   live = L.live;
   holds = L.holds;
+  run = child_run level gfn L.slot upper most L.run;
   writes = L.writes;
   first = L.first + i * level_span (level - 1);
   is =

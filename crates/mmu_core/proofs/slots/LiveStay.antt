@@ -29,6 +29,7 @@ module _ (before : ℕ → ℕ) (set : ℕ) (after : ℕ → ℕ) (other : ℕ) 
     slot = L.slot;
     live = stay L.id L.slot L.live;
     holds = L.holds;
+    run = L.run;
     writes = L.writes;
     first = L.first;
     is = L.is;

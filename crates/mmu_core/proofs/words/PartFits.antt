@@ -25,7 +25,7 @@ use Rattle.core_views.specs.declared.topics.OwnedFrame.{OwnedFrame}
 use Rattle.core_views.specs.declared.topics.PageRun.{PageRun}
 use Rattle.part_steps.specs.PageRuns.{IsOnRun, level_put, page_next, word_given, word_seen}
 use Rattle.part_steps.specs.PartTasks.{page_to_change, word_to_give}
-use Rattle.mmu_core.proofs.words.RunSpans.{next_on_run}
+use Rattle.part_steps.proofs.PageRuns.{next_on_run}
 use Rattle.part_steps.specs.FrameHoldings.{revises}
 use Rattle.part_steps.specs.FrameTopics.{frame_owned}
 use Rattle.part_steps.proofs.FrameWords.{copied_within, stored_within}

@@ -20,22 +20,10 @@ one_span =
     (λ first page is. (omega (arith, is), omega (arith, is), omega (arith, is), omega (arith, is)))
     (λ first page is. (omega (arith, is), omega (arith, is), omega (arith, is), omega (arith, is)))
 
-abbrev pub SpanGoes : ℕ → Type 0
-SpanGoes s = (first k : ℕ) → k < s → ((first - first % s + k) / s ≡ first / s) × ((first - first % s + k) % s ≡ k)
-
-pub span_goes : (level : ℕ) → 1 ≤ level → level ≤ 4 → SpanGoes (level_span level)
-span_goes =
-    each_span SpanGoes (λ first k lt. (omega (arith, lt), omega (arith, lt))) (λ first k lt. (omega (arith, lt), omega (arith, lt)))
-    (λ first k lt. (omega (arith, lt), omega (arith, lt))) (λ first k lt. (omega (arith, lt), omega (arith, lt)))
-
 pub on_run : (run : PageRun) (page : ℕ) → 1 ≤ run.level → run.level ≤ 4 → IsOnRun page (Some run)
     → (run_start run ≤ page) × (page < run_start run + level_span run.level) × (page ≡ run_start run + page % level_span run.level)
     × (run_start run ≡ page - page % level_span run.level)
 on_run run page from most on = one_span run.level from most run.first page on
-
-pub next_on_run : (run : PageRun) → 1 ≤ run.level → run.level ≤ 4 → run.changed < level_span run.level
-    → IsOnRun (page_next run) (Some run) × (page_next run % level_span run.level ≡ run.changed)
-next_on_run run from most left = span_goes run.level from most run.first run.changed left
 
 -- A page is the next one of the run that is this page.
 pub this_next : (page : ℕ) → page ≡ page_next (run_of page)

@@ -9,6 +9,7 @@ use Rattle.spte_words.specs.HostWords.{host_allows_write, host_frame}
 use Rattle.mmu_core.specs.invariant.CachedPart.{IsLeafFor}
 use Rattle.mmu_core.specs.invariant.SlotSetPart.{IsLiveIn}
 use Rattle.mmu_core.specs.invariant.TreePart.{Position, HangsBelow, Use}
+use Rattle.part_steps.specs.RunHoldings.{HasRun}
 use Rattle.part_steps.specs.SlotWords.{may_write, page_of}
 
 -- The entry of the table that stands here is over the guest frame.
@@ -24,13 +25,14 @@ AllOver up spot pool m IsSo =
 abbrev pub LeafIsFor : (ℕ → ℕ) → (ℕ → ℕ) → ℕ → ℕ → ℕ → ℕ → Type 0
 LeafIsFor pool host set level gfn w = kind_of level w ≡ Leaf → IsLeafFor pool host set level gfn w
 
--- What a leaf of any level says of a guest frame of its span: it names the frame of the page that slots and host give this guest frame, as far from
--- the first one of its span as the guest frame is; and it allows no write that they don't allow.
+-- What a leaf of any level says of a guest frame of its span: a slot has the whole span, and the leaf names the frame of the page that slots and host give
+-- this guest frame, as far from the first one of its span as the guest frame is; and it allows no write that they don't allow.
 pub record LeafSays (pool host : ℕ → ℕ) (set level gfn leaf : ℕ) : Type 0 where
   pub id : ℕ
   pub slot : SlotOf
   pub live : IsLiveIn pool set id slot
   pub holds : contains gfn slot ≡ true
+  pub run : HasRun level gfn slot
   pub frame : host_frame (host (page_of slot gfn)) ≡ frame_in leaf + gfn % level_span level
   pub writes : can_write leaf ≡ true → may_write slot (host (page_of slot gfn)) ≡ true
   pub host_bit : host_writable leaf ≡ true → host_allows_write (host (page_of slot gfn)) ≡ true

@@ -7,17 +7,20 @@ use Rattle.core_views.specs.Slots.{contains}
 use Rattle.mmu_core.specs.invariant.SlotSetPart.{IsLiveIn}
 use Rattle.mmu_core.specs.forms.access.Cached.{covers}
 use Rattle.part_steps.specs.PartBounds.{IsAtLeafLevel}
+use Rattle.part_steps.specs.RunHoldings.{HasRun}
 use Rattle.part_steps.specs.SlotWords.{leaf_at, page_of}
 use Rattle.spte_words.specs.Entries.{level_span, mapped_frame}
 use Rattle.spte_words.specs.HostWords.{host_frame, host_present}
 
 -- The word is a leaf of this level, of the page that the published slots, in this page, and the host give the guest frame, with write permission, where they
--- allow it, or without. Its first frame is as far before the page's as the first guest frame of its span is before this one; and the page is present.
+-- allow it, or without. Its first frame is as far before the page's as the first guest frame of its span is before this one; the page is present, and the slot
+-- has the whole span.
 pub record IsLeafFor (pool host : ℕ → ℕ) (set level gfn leaf : ℕ) : Type 0 where
   pub id : ℕ
   pub slot : SlotOf
   pub live : IsLiveIn pool set id slot
   pub holds : contains gfn slot ≡ true
+  pub run : HasRun level gfn slot
   pub writes : Bool
   pub first : ℕ
   pub is : leaf ≡ leaf_at level first writes slot (host (page_of slot gfn))

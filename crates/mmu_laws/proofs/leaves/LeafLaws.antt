@@ -108,6 +108,7 @@ leaf_says pool host set level gfn leaf L = record {
   slot = slot;
   live = L.live;
   holds = L.holds;
+  run = L.run;
   frame = sym (leaf_maps pool host set level gfn leaf L);
   writes = λ is. (both L.writes (may_write slot word)
       (sym (ap can_write L.is ∙ leaf_can_write level L.first allowed (host_allows_write word) (may_write slot word)) ∙ is)).1;

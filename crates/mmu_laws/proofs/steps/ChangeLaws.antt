@@ -27,7 +27,8 @@ use Rattle.mmu_core.specs.machine.Steps.{place_at}
 use Rattle.mmu_core.specs.machine.Turns.{line_of}
 use Rattle.mmu_core.proofs.held.OwnPages.{thread_owns}
 use Rattle.mmu_laws.specs.steps.InvalidationLaws.{ChangesAreInvalidated, ChangesOwnPage}
-use Rattle.mmu_core.proofs.words.RunSpans.{next_on_run, this_next}
+use Rattle.part_steps.proofs.PageRuns.{next_on_run}
+use Rattle.mmu_core.proofs.words.RunSpans.{this_next}
 use Rattle.spte_words.proofs.Spans.{spans}
 use Rattle.mmu_laws.proofs.forms.host_run.RunChangers.{next_is_runs, setter_is_host}
 use Rattle.mmu_laws.proofs.causes.MadeSteps.{Makes, in_machine, own_sizes, word_on}

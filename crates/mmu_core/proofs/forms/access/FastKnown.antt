@@ -16,7 +16,7 @@ use Rattle.spte_words.specs.Entries.{kind_of, can_write, host_writable, mmu_writ
 use Rattle.spte_words.specs.Flags.{flags_live}
 use Rattle.mmu_core.specs.forms.access.FaultKnows.{FastFound, FaultKnows, InSection, forbids_more}
 use Rattle.mmu_core.specs.forms.access.FaultSteps.{fast_find_next, fast_walk_next}
-use Rattle.part_steps.specs.PartHoldings.{FoundSlot, HoldsSet, IsOver, is_fixable}
+use Rattle.part_steps.specs.PartHoldings.{FoundSlot, HoldsSet, IsOver, is_fixable, one_mark_tells}
 use Rattle.part_steps.specs.PartTasks.{entry_index}
 use Rattle.part_steps.specs.PageTopics.{searched, searched_at}
 use Rattle.part_steps.specs.ControlTopics.{at_root, at_set}
@@ -84,13 +84,14 @@ not_fixable false false mmu e = refl
 
 -- The entry isn't one in which the write can be allowed.
 not_fast : (z : Sizes) (gfn : ℕ) (write : Bool) (t : Topics) (v : ℕ) → FastFound gfn t → IsOver gfn t.walk
-    → forbids_more (kind_of t.walk.level v) t.walk.level v ≡ true
+    → forbids_more (kind_of t.walk.level v) t.walk.level t.search.logged v ≡ true
     → FaultKnows (End (NotFast v)) z gfn write (record t { walk = gone_down None t.walk (entry_index gfn t.walk.level) v })
 not_fast z gfn write t v F O why = (same_inside t _ refl refl refl F.inside, F.loose, inr (saw_it gfn v t.walk O, refl, why))
 
-leaf_met : (lowest fixable : Bool) (z : Sizes) (gfn : ℕ) (write : Bool) (t : Topics) (v : ℕ) → (t.walk.level == 1) ≡ lowest → is_fixable v ≡ fixable
+leaf_met : (told fixable : Bool) (z : Sizes) (gfn : ℕ) (write : Bool) (t : Topics) (v : ℕ) → one_mark_tells t.walk.level t.search.logged ≡ told
+    → is_fixable v ≡ fixable
     → kind_of t.walk.level v ≡ entry_kind.Leaf → FastFound gfn t → IsOver gfn t.walk
-    → FaultKnows (if lowest && fixable then Fix else End (NotFast v)) z gfn write (record t { walk = gone_down None t.walk (entry_index gfn t.walk.level) v })
+    → FaultKnows (if told && fixable then Fix else End (NotFast v)) z gfn write (record t { walk = gone_down None t.walk (entry_index gfn t.walk.level) v })
 leaf_met true true z gfn write t v low may is F O = (
   same_fast gfn t _ refl refl refl refl refl F,
   record {
@@ -98,26 +99,26 @@ leaf_met true true z gfn write t v low may is F O = (
     loose = F.loose;
     found = same_found gfn t _ refl F.found;
     saw = saw_it gfn v t.walk O;
-    lowest = grind (arith, nat_tests);
+    told = low;
     leaf = is;
     fixable = may;
     owes_none = F.inside.owes_none;
   },
 )
 leaf_met true false z gfn write t v low may is F O =
-    not_fast z gfn write t v F O (ap (λ (k : SpteKind). forbids_more k t.walk.level v) is
+    not_fast z gfn write t v F O (ap (λ (k : SpteKind). forbids_more k t.walk.level t.search.logged v) is
     ∙ ap (λ (b : Bool). not b || (can_write v || (not (host_writable v) || not (mmu_writable v)))) low
     ∙ not_fixable (can_write v) (host_writable v) (mmu_writable v) may)
 leaf_met false fixable z gfn write t v low may is F O =
-    not_fast z gfn write t v F O (ap (λ (k : SpteKind). forbids_more k t.walk.level v) is
+    not_fast z gfn write t v F O (ap (λ (k : SpteKind). forbids_more k t.walk.level t.search.logged v) is
     ∙ ap (λ (b : Bool). not b || (can_write v || (not (host_writable v) || not (mmu_writable v)))) low)
 
 pub fast_walk_known : (k : SpteKind) (z : Sizes) (gfn : ℕ) (write : Bool) (t : Topics) (v : ℕ) → kind_of t.walk.level v ≡ k → t.walk.level ≤ 4
     → FastFound gfn t → IsOver gfn t.walk
-    → FaultKnows (fast_walk_next k t.walk v) z gfn write (record t { walk = gone_down (linked_page k) t.walk (entry_index gfn t.walk.level) v })
+    → FaultKnows (fast_walk_next k t.walk.level t.search.logged v) z gfn write (record t { walk = gone_down (linked_page k) t.walk (entry_index gfn t.walk.level) v })
 fast_walk_known (entry_kind.Table page) z gfn write t v is most F O =
     (same_fast gfn t _ refl refl refl refl refl F, λ _. gone_over gfn page v t.walk (above_lowest t.walk.level v page O.there is) most O)
-fast_walk_known entry_kind.Leaf z gfn write t v is most F O = leaf_met (t.walk.level == 1) (is_fixable v) z gfn write t v refl refl is F O
-fast_walk_known entry_kind.Absent z gfn write t v is most F O = not_fast z gfn write t v F O (ap (λ (k : SpteKind). forbids_more k t.walk.level v) is)
+fast_walk_known entry_kind.Leaf z gfn write t v is most F O = leaf_met (one_mark_tells t.walk.level t.search.logged) (is_fixable v) z gfn write t v refl refl is F O
+fast_walk_known entry_kind.Absent z gfn write t v is most F O = not_fast z gfn write t v F O (ap (λ (k : SpteKind). forbids_more k t.walk.level t.search.logged v) is)
 fast_walk_known entry_kind.Frozen z gfn write t v is most F O =
-    not_fast z gfn write t v F O (ap (λ (k : SpteKind). forbids_more k t.walk.level v) is)
+    not_fast z gfn write t v F O (ap (λ (k : SpteKind). forbids_more k t.walk.level t.search.logged v) is)

@@ -38,7 +38,7 @@ use Rattle.mmu_core.specs.forms.access.FaultSteps.{Pages, host_word_at, share_ne
 use Rattle.mmu_core.specs.lines.PartWaits.{part_waits}
 use Rattle.part_steps.specs.PartBounds.{PartRests}
 use Rattle.part_steps.specs.PartTasks.{entry_index, link_written, page_owned, word_looked, words_filled}
-use Rattle.part_steps.specs.PartHoldings.{HasToFill, is_fixable}
+use Rattle.part_steps.specs.PartHoldings.{HasToFill, is_fixable, one_mark_tells}
 use Rattle.part_steps.specs.PartTopics.{exchanged, part_topics}
 use Rattle.part_steps.specs.StayTopics.{may_walk}
 use Rattle.part_steps.specs.WalkTopics.{gone_down, linked_page}
@@ -197,10 +197,10 @@ fast_leaf_falls true z v level u from = omega arith
 fast_leaf_falls false z v level u from = omega arith
 
 fast_walk_falls : (k : SpteKind) (z : Sizes) (gfn : ℕ) (t : Topics) (v : ℕ) → kind_of t.walk.level v ≡ k → 1 ≤ t.walk.level
-    → fault_left (fast_walk_next k t.walk v) z (record t { walk = gone_down (linked_page k) t.walk (entry_index gfn t.walk.level) v })
+    → fault_left (fast_walk_next k t.walk.level t.search.logged v) z (record t { walk = gone_down (linked_page k) t.walk (entry_index gfn t.walk.level) v })
     < entering_left z + 140 + t.walk.level
 fast_walk_falls (entry_kind.Table page) z gfn t v is from = omega arith
-fast_walk_falls entry_kind.Leaf z gfn t v is from = fast_leaf_falls ((t.walk.level == 1) && is_fixable v) z v t.walk.level _ from
+fast_walk_falls entry_kind.Leaf z gfn t v is from = fast_leaf_falls (one_mark_tells t.walk.level t.search.logged && is_fixable v) z v t.walk.level _ from
 fast_walk_falls entry_kind.Absent z gfn t v is from = omega arith
 fast_walk_falls entry_kind.Frozen z gfn t v is from = omega arith
 

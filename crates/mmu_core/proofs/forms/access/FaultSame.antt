@@ -19,7 +19,7 @@ use Rattle.spte_words.specs.HostWords.{host_present}
 use Rattle.mmu_core.specs.forms.access.FaultKnows.{FaultEndKnows, Entering, FoundNone, FoundNoPage, IsInTheWay, LookedFor, SawUpperEnd, Sharing, WithoutLock}
 use Rattle.mmu_core.specs.forms.access.FaultKnows.{HasCause, HasEntry, InSection, IsFixed, IsLostFix, Retries, SawNotFast, forbids_more}
 use Rattle.mmu_core.specs.forms.access.FaultSteps.{allows_access, host_word_at}
-use Rattle.part_steps.specs.PartHoldings.{takes_table, FoundSlot, IsFresh, LookedUp, SawEntry}
+use Rattle.part_steps.specs.PartHoldings.{takes_table, FoundSlot, IsFresh, LookedUp, SawEntry, one_mark_tells}
 use Rattle.part_steps.specs.PartTasks.{word_looked}
 use Rattle.part_steps.specs.SlotWords.{page_of}
 use Rattle.part_steps.specs.StayTopics.{unchecked}
@@ -110,7 +110,9 @@ same_entry gfn write t u walk K = record {
 same_not_fast : (word gfn : ℕ) (t u : Topics) → u.walk ≡ t.walk → u.search ≡ t.search → SawNotFast word gfn t → SawNotFast word gfn u
 same_not_fast word gfn t u walk search (inl n) = inl (n.0, same_none_found gfn t u search n.1)
 same_not_fast word gfn t u walk search (inr S) = inr (subst
-    (λ (w : TableWalk). SawEntry gfn w × (w.entry ≡ word) × (forbids_more (kind_of w.level word) w.level word ≡ true)) (sym walk) S)
+    (λ (w : TableWalk). SawEntry gfn w × (w.entry ≡ word) × (forbids_more (kind_of w.level word) w.level u.search.logged word ≡ true)) (sym walk)
+    (subst (λ (s : SlotSearch). SawEntry gfn t.walk × (t.walk.entry ≡ word) × (forbids_more (kind_of t.walk.level word) t.walk.level s.logged word ≡ true))
+    (sym search) S))
 
 cause_same : (cause : Cause) (z : Sizes) (gfn : ℕ) (t u : Topics) → u.walk ≡ t.walk → u.search ≡ t.search → u.host ≡ t.host
     → unchecked u.invalidations ≡ unchecked t.invalidations → HasCause cause z gfn t → HasCause cause z gfn u
@@ -141,12 +143,14 @@ ends_same (NotFast word) z gfn write t u walk search host claim n K = same_not_f
 ends_same (Fixed marked) z gfn write t u walk search host claim n K = record {
   found = same_found gfn t u search K.found;
   entry = same_entry gfn write t u walk K.entry;
-  fixed = subst (λ (w : TableWalk). IsFixed w.level w.entry) (sym walk) K.fixed;
+  fixed = subst (λ (w : TableWalk). IsFixed w.entry) (sym walk) K.fixed;
+  told = ap (λ (w : TableWalk). one_mark_tells w.level u.search.logged) walk ∙ ap (λ (s : SlotSearch). one_mark_tells t.walk.level s.logged) search ∙ K.told;
   marks = K.marks ∙ ap (λ (s : SlotSearch). s.logged) (sym search);
 }
 ends_same (Retry fast cause) z gfn write t u walk search host claim n K = record {
   has = cause_same cause z gfn t u walk search host n K.has;
-  lost = λ is. subst (IsLostFix cause z gfn) (sym walk) (K.lost is);
+  lost = λ is. subst (λ (w : TableWalk). IsLostFix cause z gfn w u.search.logged) (sym walk)
+      (subst (λ (s : SlotSearch). IsLostFix cause z gfn t.walk s.logged) (sym search) (K.lost is));
 }
 
 pub same_without : (t u : Topics) → u.stay ≡ t.stay → u.owned ≡ t.owned → u.hold ≡ t.hold → u.invalidations ≡ t.invalidations → u.owed ≡ t.owed

@@ -10,7 +10,6 @@ use Rattle.core_views.specs.declared.place.FaultPlace.TheVariants.{FastFind, Fas
 use Rattle.core_views.specs.declared.place.SlotField.{SlotField}
 use Rattle.core_views.specs.declared.sizes.Sizes.{Sizes}
 use Rattle.core_views.specs.declared.topics.SlotSearch.{SlotSearch}
-use Rattle.core_views.specs.declared.topics.TableWalk.{TableWalk}
 use Rattle.core_views.specs.declared.topics.Topics.{Topics}
 use Rattle.core_views.specs.Slots.{contains}
 use Rattle.spte_words.specs.declared.spte_kind.SpteKind.{SpteKind}
@@ -37,7 +36,7 @@ use Rattle.part_steps.specs.declared.part_step.PartStep.{PartStep}
 use Rattle.part_steps.specs.declared.part_step.PartStep.TheVariants as part
 use Rattle.part_steps.specs.PartTasks.{word_looked, words_filled}
 use Rattle.part_steps.specs.PageTopics.{searched}
-use Rattle.part_steps.specs.PartHoldings.{is_fixable}
+use Rattle.part_steps.specs.PartHoldings.{is_fixable, one_mark_tells}
 
 -- The fault is at a step of its claim, or is to be starved.
 abbrev pub ClaimsOrStarves : FaultPlace → Type 0
@@ -82,11 +81,11 @@ not_by_walk entry_kind.Leaf z gfn write t v =
 not_by_walk entry_kind.Absent z gfn write t v = not_by_end gfn write t
 not_by_walk _ z gfn write t v = λ e. e
 
-not_by_fast_walk : (k : SpteKind) (walk : TableWalk) (v : ℕ) → NotBegun (fast_walk_next k walk v)
-not_by_fast_walk entry_kind.Leaf walk v = either_place NotBegun ((walk.level == 1) && is_fixable v) Fix (End (NotFast v)) (λ e. e) (λ e. e)
-not_by_fast_walk entry_kind.Absent walk v = λ e. e
-not_by_fast_walk entry_kind.Frozen walk v = λ e. e
-not_by_fast_walk (entry_kind.Table page) walk v = λ e. e
+not_by_fast_walk : (k : SpteKind) (level : ℕ) (logged : Bool) (v : ℕ) → NotBegun (fast_walk_next k level logged v)
+not_by_fast_walk entry_kind.Leaf level logged v = either_place NotBegun (one_mark_tells level logged && is_fixable v) Fix (End (NotFast v)) (λ e. e) (λ e. e)
+not_by_fast_walk entry_kind.Absent level logged v = λ e. e
+not_by_fast_walk entry_kind.Frozen level logged v = λ e. e
+not_by_fast_walk (entry_kind.Table page) level logged v = λ e. e
 
 not_by_over : (fast marked : Bool) → NotBegun (over_next fast marked)
 not_by_over true marked = λ e. e
@@ -124,8 +123,8 @@ fault_claims (FastFind begun) z gfn write t v K e =
     either_place NotBegun begun (fast_find_next gfn t.search.next (searched t.search v)) (FastFind true)
     (not_by_search (FastWalk false) (End (NotFast 0)) (FastFind true) gfn t.search.next (searched t.search v) (λ x. x) (λ x. x) (λ x. x)) (λ x. x) e
 fault_claims (FastWalk rooted) z gfn write t v K e =
-    either_place NotBegun rooted (fast_walk_next (kind_of t.walk.level v) t.walk v) (FastWalk true)
-    (not_by_fast_walk (kind_of t.walk.level v) t.walk v) (λ x. x) e
+    either_place NotBegun rooted (fast_walk_next (kind_of t.walk.level v) t.walk.level t.search.logged v) (FastWalk true)
+    (not_by_fast_walk (kind_of t.walk.level v) t.walk.level t.search.logged v) (λ x. x) e
 fault_claims Fix z gfn write t v K e =
     either_place NotBegun (v == t.walk.entry) (put_next true t.search.logged) (End (Retry true _)) (not_by_put true _) (λ x. x) e
 fault_claims (Mark fast) z gfn write t v K e = not_by_over fast true e

@@ -8,13 +8,13 @@ use Rattle.core_views.specs.declared.sizes.Sizes.{Sizes}
 use Rattle.core_views.specs.declared.topics.HostLook.{HostLook}
 use Rattle.core_views.specs.declared.topics.Topics.{Topics}
 use Rattle.core_views.specs.declared.trace.Slot.{Slot}
-use Rattle.spte_words.specs.Entries.{can_write, kind_of, level_span, with_write, without_write}
+use Rattle.spte_words.specs.Entries.{can_write, level_span, with_write, without_write}
 use Rattle.spte_words.specs.HostWords.{host_allows_write, host_frame}
 use Rattle.spte_words.proofs.FixedEntries.{fixed_back, fixed_can_write, fixed_kind}
 use Rattle.spte_words.proofs.ReadsEntries.{leaf_can_write}
 use Rattle.mmu_core.specs.forms.access.FaultKnows.{Entering, FastFound, FaultKnows, IsFixed, Marks}
 use Rattle.mmu_core.specs.forms.access.FaultSteps.{allows_access, entry_word, exchange_lost, over_next, put_next}
-use Rattle.part_steps.specs.PartHoldings.{LookedUp, MapsRun, MayFix, SawEntry, is_fixable}
+use Rattle.part_steps.specs.PartHoldings.{LookedUp, MapsRun, MayFix, SawEntry, is_fixable, one_mark_tells}
 use Rattle.part_steps.specs.PartTasks.{entry_index, leaf_fixed, leaf_written, puts_write, word_looked}
 use Rattle.part_steps.specs.PartTopics.{exchanged}
 use Rattle.part_steps.specs.SlotWords.{leaf_at, leaf_of, may_write}
@@ -117,10 +117,15 @@ leaf_known false writes z gfn write t v is E none S maps same = (
 
 -- ---- writes allowed by a fast fault
 
+-- Where the slot has a dirty log, a leaf of which one mark tells all is of the lowest level.
+pub logged_told : (level : ℕ) (logged : Bool) → one_mark_tells level logged ≡ true → logged ≡ true → level ≡ 1
+logged_told level true told is = grind (arith, nat_tests)
+logged_told level false told is = absurd (cc is)
+
 pub fix_put : (gfn : ℕ) (write : Bool) (t : Topics) → MayFix gfn t → IsPut gfn write t (leaf_fixed t)
 fix_put gfn write t M = record {
   over = M.saw.over;
-  low = λ logged. M.lowest;
+  low = logged_told t.walk.level t.search.logged M.told;
   leaf = fixed_kind t.walk.level t.walk.entry M.leaf denies;
   allows = ap (λ (b : Bool). not write || b) writes ∙ either write;
   owes_none = M.owes_none;
@@ -146,8 +151,8 @@ fix_marks gfn t M =
     and_true true = refl
     and_true false = refl
 
-fix_is : (gfn : ℕ) (t : Topics) → MayFix gfn t → IsFixed t.walk.level (leaf_fixed t)
-fix_is gfn t M = record { lowest = M.lowest; fixable = ap is_fixable back ∙ M.fixable; set = ap with_write back }
+fix_is : (gfn : ℕ) (t : Topics) → MayFix gfn t → IsFixed (leaf_fixed t)
+fix_is gfn t M = record { fixable = ap is_fixable back ∙ M.fixable; set = ap with_write back }
   where
     back : without_write (leaf_fixed t) ≡ t.walk.entry
     back = fixed_back t.walk.entry (is_not (can_write t.walk.entry) (both (not (can_write t.walk.entry)) _ M.fixable).0)
@@ -161,7 +166,7 @@ fix_ends true z gfn v write t logged F M P = record {
   owes = refl;
   found = same_found gfn t _ refl F.found;
   entry = has_entry gfn (leaf_fixed t) v write true t P;
-  lowest = M.lowest;
+  lowest = logged_told t.walk.level t.search.logged M.told logged;
   logged = logged;
   fixed = λ e. fix_is gfn t M;
 }
@@ -172,6 +177,7 @@ fix_ends false z gfn v write t logged F M P = (
     found = same_found gfn t _ refl F.found;
     entry = has_entry gfn (leaf_fixed t) v write false t P;
     fixed = fix_is gfn t M;
+    told = M.told;
     marks = sym logged;
   },
 )
@@ -195,10 +201,10 @@ fix_known false z gfn write t v is F M = (
         λ e.
         record {
           saw = saw_it gfn v t.walk M.saw.over;
-          lowest = M.lowest;
+          told = M.told;
           is_entry = refl;
           holds = refl;
-          leaf = ap (λ l. kind_of l t.walk.entry) (sym M.lowest) ∙ M.leaf;
+          leaf = M.leaf;
           fixable = M.fixable;
           differs = differs;
         };
@@ -215,7 +221,7 @@ pub mark_known : (fast : Bool) (z : Sizes) (gfn : ℕ) (write : Bool) (t : Topic
 mark_known true z gfn write t K = (
   record { section = K.section; owns_none = K.owns_none; owes_none = refl },
   K.held,
-  record { found = same_found gfn t _ refl K.found; entry = same_entry gfn write t _ refl K.entry; fixed = K.fixed refl; marks = sym K.logged },
+  record { found = same_found gfn t _ refl K.found; entry = same_entry gfn write t _ refl K.entry; fixed = K.fixed refl; told = ap (λ l. one_mark_tells l t.search.logged) K.lowest; marks = sym K.logged },
 )
 mark_known false z gfn write t K =
     (record { section = K.section; owns_none = K.owns_none; owes_none = refl }, K.held, same_entry gfn write t _ refl K.entry)

@@ -1,7 +1,6 @@
 -- A line that changes a host page has what each of its steps needs.
-use Rattle.std.proofs.lemmas.Option.{get_or_from_slice_get, slice_get_within}
-use Rattle.std.proofs.Common.{◌≡◌, ◌+◌, ◌<◌, ◌≤◌, ℕ, Bool, true, false, refl, inr, subst, ap, ◌∙◌, arith, Option, sym}
-use Rattle.std.specs.Prelude.{◌&&◌, if◌then◌else◌, nat_lt, Some, None, slice_get, unwrap_or, false}
+use Rattle.std.proofs.Common.{◌≡◌, ◌+◌, ◌<◌, ℕ, Bool, true, false, refl, inr, subst, ap, ◌∙◌, arith, sym}
+use Rattle.std.specs.Prelude.{◌&&◌, if◌then◌else◌, nat_lt, None, Some}
 use Rattle.core_views.specs.declared.actor.Actor.{Actor}
 use Rattle.core_views.specs.declared.actor.Actor.TheVariants.{Host}
 use Rattle.core_views.specs.declared.place.EndPlace.{EndPlace}
@@ -33,23 +32,15 @@ use Rattle.mmu_core.proofs.forms.access.FaultSame.{over_it}
 use Rattle.mmu_core.proofs.forms.host.HostMoves.{revises_it}
 use Rattle.mmu_core.proofs.orders.InvalidateNeeds.{begin_needs, end_needs}
 use Rattle.mmu_core.proofs.orders.RunsAimed.{one_aimed}
+use Rattle.mmu_core.proofs.held.OwnPages.{first_within}
 use Rattle.mmu_core.proofs.held.PageRuns.{this_page}
 use Rattle.mmu_core.proofs.orders.WatchMade.{never_own}
 
 -- A page of a host thread's own is one of the machine's.
-first_low : (z : Sizes) (host : ℕ) → AreSizes z → first_page_in z.first_pages z.pages host ≤ z.pages
-first_low z host S = by (slice_get z.first_pages host) refl
-  where
-    by : (o : Option ℕ) → slice_get z.first_pages host ≡ o → unwrap_or o z.pages ≤ z.pages
-    by None e = omega arith
-    by (Some page) e =
-        subst (λ (x : ℕ). x ≤ z.pages) (get_or_from_slice_get z.first_pages host page 0 e)
-        (S.firsts host 0 (slice_get_within z.first_pages host page e))
-
 pub own_low : (z : Sizes) (actor : Actor) (page : ℕ) → AreSizes z → is_own z actor page ≡ true → page < z.pages
 own_low z (Host n) page S is =
     let O = over_it (first_page_in z.first_pages z.pages n) page (first_page_in z.first_pages z.pages (n + 1)) is in
-    let low = first_low z (n + 1) S in
+    let low = first_within z (n + 1) S in
     omega (arith, O.1, low)
 own_low z _ page S is = absurd (cc is)
 

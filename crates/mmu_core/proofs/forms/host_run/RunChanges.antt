@@ -14,7 +14,7 @@ use Rattle.part_steps.specs.InvalidationRange.{run_of_target}
 use Rattle.part_steps.specs.PageRuns.{is_several, run_looked, run_of}
 use Rattle.mmu_core.specs.forms.host_run.HostRunKnows.{ChangesPages, ChangesRun, HasLookedAtAll}
 use Rattle.mmu_core.specs.forms.host_run.HostRunSteps.{run_target}
-use Rattle.mmu_core.proofs.forms.host_run.RunLooks.{RunSeen, Large, One, Row, large_looked, level_most, look_of, run_seen_at}
+use Rattle.mmu_core.proofs.forms.host_run.RunLooks.{RunSeen, Large, One, Several, large_looked, level_most, look_of, run_seen_at}
 use Rattle.mmu_core.proofs.forms.host_run.RunTargets.{aimed_looked, run_is_aimed, several_looked}
 use Rattle.mmu_core.proofs.orders.RunsAimed.{lowest_looked, one_looked}
 
@@ -51,7 +51,7 @@ module _ (page : ℕ) (g : Held) where
         huge = λ l e. absurd (cc e);
         small = λ e. refl;
       })
-  seen_change _ look host at L (Row level from most level_is small begins) is =
+  seen_change _ look host at L (Several level from most level_is small begins) is =
       let row = g.topics.row in
       let many : nat_lt 1 level ≡ true = grind (arith, nat_tests) in
       several_change (Huge level) (record { first = look.page; level = level; word = look.word; changed = 0 })

@@ -18,13 +18,13 @@ use Rattle.spte_words.specs.Entries.{level_span}
 use Rattle.spte_words.specs.HostWords.{host_frame, host_level, host_present}
 use Rattle.spte_words.proofs.Spans.{span_2, span_3}
 use Rattle.part_steps.specs.InvalidationRange.{page_looked}
-use Rattle.part_steps.specs.PageRuns.{is_row, level_looked}
+use Rattle.part_steps.specs.PageRuns.{makes_run, level_looked}
 use Rattle.part_steps.specs.PartTasks.{word_looked}
 use Rattle.mmu_core.specs.forms.host.HostSteps.{entry_of, maps_large}
 use Rattle.mmu_core.specs.forms.host_run.HostRunKnows.{HasLookedAtAll, fits_looked}
 use Rattle.mmu_core.specs.forms.host_run.HostRunSteps.{fits, wants_small}
 use Rattle.mmu_core.proofs.forms.access.FaultSame.{both, over_it}
-use Rattle.mmu_core.proofs.orders.RunsAimed.{no_row}
+use Rattle.mmu_core.proofs.orders.RunsAimed.{makes_no_run}
 
 -- ---- levels and runs
 
@@ -111,24 +111,24 @@ page_own z actor page Small own_ = own_
 -- It is that of a large page; or of small ones in a row, which begins with its first page; or one small page.
 pub data RunSeen (look : HostLook) (row : HostRow) : RunChange → Type 0 where
   Large : maps_large look.word ≡ true → RunSeen look row Small
-  Row : (level : ℕ) → 2 ≤ level → level ≤ 3 → level_looked look row ≡ level → maps_large look.word ≡ false → look.page % level_span level ≡ 0
+  Several : (level : ℕ) → 2 ≤ level → level ≤ 3 → level_looked look row ≡ level → maps_large look.word ≡ false → look.page % level_span level ≡ 0
       → RunSeen look row (Huge level)
   One : maps_large look.word ≡ false → row.looked ≡ 1 → RunSeen look row Small
 
 -- The level of a large page is its own.
 pub large_looked : (look : HostLook) (row : HostRow) → maps_large look.word ≡ true → level_looked look row ≡ host_level look.word
 large_looked look row large =
-    ap (λ (b : Bool). if b then host_level look.word else if is_row 3 look row then 3 else if is_row 2 look row then 2 else 1) large
+    ap (λ (b : Bool). if b then host_level look.word else if makes_run 3 look row then 3 else if makes_run 2 look row then 2 else 1) large
 
 -- That of a row of small ones is the row's.
 row_looked : (look : HostLook) (row : HostRow) (level : ℕ) → 2 ≤ level → level ≤ 3 → row.looked ≡ run_pages level → maps_large look.word ≡ false
-    → is_row level look row ≡ true → level_looked look row ≡ level
+    → makes_run level look row ≡ true → level_looked look row ≡ level
 row_looked look row level from most all small in_row =
-    ap (λ (b : Bool). if b then host_level look.word else if is_row 3 look row then 3 else if is_row 2 look row then 2 else 1) small
-    ∙ each_several (λ l. row.looked ≡ run_pages l → is_row l look row ≡ true → (if is_row 3 look row then 3 else if is_row 2 look row then 2 else 1) ≡ l)
-    (λ all in_row. ap (λ (b : Bool). if b then 3 else if is_row 2 look row then 2 else 1) (no_row 3 512 look row all (ap (λ n. 512 == n) span_3))
+    ap (λ (b : Bool). if b then host_level look.word else if makes_run 3 look row then 3 else if makes_run 2 look row then 2 else 1) small
+    ∙ each_several (λ l. row.looked ≡ run_pages l → makes_run l look row ≡ true → (if makes_run 3 look row then 3 else if makes_run 2 look row then 2 else 1) ≡ l)
+    (λ all in_row. ap (λ (b : Bool). if b then 3 else if makes_run 2 look row then 2 else 1) (makes_no_run 3 512 look row all (ap (λ n. 512 == n) span_3))
     ∙ ap (λ (b : Bool). if b then 2 else 1) in_row)
-    (λ all in_row. ap (λ (b : Bool). if b then 3 else if is_row 2 look row then 2 else 1) in_row) level from most all in_row
+    (λ all in_row. ap (λ (b : Bool). if b then 3 else if makes_run 2 look row then 2 else 1) in_row) level from most all in_row
 
 run_seen : (change : RunChange) (look : HostLook) (row : HostRow) → IsRunChange change → (wants_small change ≡ true → maps_large look.word ≡ false)
     → row.looked ≡ run_count change (entry_of look.word) → fits change look row ≡ true → RunSeen look row change
@@ -136,7 +136,7 @@ run_seen (Huge level) look row in_range small all fit =
     let aligned = (both (row.alike && (host_present look.word && row.looked == level_span level))
     (look.page % level_span level == 0 && host_frame look.word % level_span level == 0) fit).1 in
     let begins = (both (look.page % level_span level == 0) (host_frame look.word % level_span level == 0) aligned).0 in
-    Row level in_range.0 in_range.1 (row_looked look row level in_range.0 in_range.1 all (small refl) fit) (small refl)
+    Several level in_range.0 in_range.1 (row_looked look row level in_range.0 in_range.1 all (small refl) fit) (small refl)
     (eqb-true (look.page % level_span level) 0 begins)
 run_seen Small look row in_range small all fit = by (maps_large look.word) refl
   where

@@ -25,7 +25,7 @@ use Rattle.part_steps.specs.PartTasks.{word_looked}
 use Rattle.mmu_core.specs.forms.host.HostSteps.{entry_of, maps_large}
 use Rattle.mmu_core.specs.forms.host_run.HostRunKnows.{HasLookedAtAll, LooksAtRun, looks_wanted}
 use Rattle.mmu_core.specs.forms.host_run.HostRunSteps.{other_page, page_after, run_target, target_looked}
-use Rattle.mmu_core.proofs.forms.host_run.RunLooks.{RunSeen, Large, One, Row, each_several, huge_own, large_looked, level_most, look_of}
+use Rattle.mmu_core.proofs.forms.host_run.RunLooks.{RunSeen, Large, One, Several, each_several, huge_own, large_looked, level_most, look_of}
 use Rattle.mmu_core.proofs.forms.host_run.RunLooks.{run_seen_at, small_count}
 use Rattle.mmu_core.proofs.held.PageRuns.{this_page}
 use Rattle.mmu_core.proofs.lines.EitherPlace.{either_place}
@@ -120,7 +120,7 @@ module _ (page : ℕ) (change : RunChange) (h : Held) (R : PartRests h) (L : Has
       let run = several_looked look h.topics.row several
       ∙ ap (λ l. record { first = look.page; level = l; word = look.word; changed = 0 }) (large_looked look h.topics.row large) in
       R.large look is (subst own_page (sym at) own_) other (subst (λ (r : PageRun). IsOnRun other (Some r)) run on)
-  seen_own _ look is at own_ (Row level from most level_is small begins) other on =
+  seen_own _ look is at own_ (Several level from most level_is small begins) other on =
       let more : nat_lt 1 level ≡ true = grind (arith, nat_tests) in
       let run = several_looked look h.topics.row (ap (λ l. nat_lt 1 l) level_is ∙ more)
       ∙ ap (λ l. record { first = look.page; level = l; word = look.word; changed = 0 }) level_is in

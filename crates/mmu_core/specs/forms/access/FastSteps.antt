@@ -6,11 +6,10 @@ use Rattle.core_views.specs.declared.place.FaultPlace.TheVariants.{Unshare, End,
 use Rattle.core_views.specs.declared.place.SlotField.{SlotField}
 use Rattle.core_views.specs.declared.place.SlotField.TheVariants as field
 use Rattle.core_views.specs.declared.topics.SlotSearch.{SlotSearch}
-use Rattle.core_views.specs.declared.topics.TableWalk.{TableWalk}
 use Rattle.core_views.specs.Slots.{contains}
 use Rattle.spte_words.specs.declared.spte_kind.SpteKind.{SpteKind}
 use Rattle.spte_words.specs.declared.spte_kind.SpteKind.TheVariants as entry_kind
-use Rattle.part_steps.specs.PartHoldings.{is_fixable}
+use Rattle.part_steps.specs.PartHoldings.{is_fixable, one_mark_tells}
 
 -- the last word that a search loads of a slot which has the guest frame
 abbrev pub is_last_word : SlotField → Bool
@@ -28,15 +27,15 @@ search_next has none more gfn loaded found =
 abbrev pub fast_find_next : ℕ → SlotField → SlotSearch → FaultPlace
 fast_find_next gfn loaded found = search_next (FastWalk false) (End (NotFast 0)) (FastFind true) gfn loaded found
 
--- The entry is a leaf of the lowest level that forbids nothing but the write.
-abbrev pub is_fast : SpteKind → ℕ → ℕ → Bool
-is_fast entry_kind.Leaf level v = (level == 1) && is_fixable v
-is_fast _ level v = false
+-- The entry is a leaf that forbids nothing but the write, and no large one in a slot with a dirty log.
+abbrev pub is_fast : SpteKind → ℕ → Bool → ℕ → Bool
+is_fast entry_kind.Leaf level logged v = one_mark_tells level logged && is_fixable v
+is_fast _ level logged v = false
 
--- after an entry v on the way of a fast fault
-abbrev pub fast_walk_next : SpteKind → TableWalk → ℕ → FaultPlace
-fast_walk_next (entry_kind.Table page) walk v = FastWalk true
-fast_walk_next entry walk v = if is_fast entry walk.level v then Fix else End (NotFast v)
+-- after an entry v of this level on the way of a fast fault, in a slot with a dirty log or without
+abbrev pub fast_walk_next : SpteKind → ℕ → Bool → ℕ → FaultPlace
+fast_walk_next (entry_kind.Table page) level logged v = FastWalk true
+fast_walk_next entry level logged v = if is_fast entry level logged v then Fix else End (NotFast v)
 
 -- once a leaf was put, or writes allowed in it, and the page marked or not
 abbrev pub over_next : Bool → Bool → FaultPlace

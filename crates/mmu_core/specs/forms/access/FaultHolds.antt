@@ -17,7 +17,7 @@ use Rattle.spte_words.specs.Entries.{kind_of, with_write, without_write}
 use Rattle.spte_words.specs.HostWords.{host_allows_write, host_present}
 use Rattle.mmu_core.specs.forms.access.FaultSteps.{allows_access, entry_word}
 use Rattle.part_steps.specs.PartTasks.{word_looked}
-use Rattle.part_steps.specs.PartHoldings.{FoundSlot, IsFresh, LookedUp, SawEntry, is_fixable, takes_table}
+use Rattle.part_steps.specs.PartHoldings.{FoundSlot, IsFresh, LookedUp, SawEntry, is_fixable, takes_table, one_mark_tells}
 
 -- In a section, with no page, and no mark owed; without the lock, or sharing it.
 pub record InSection (t : Topics) : Type 0 where
@@ -73,31 +73,31 @@ pub record HasEntry (gfn : ℕ) (write : Bool) (t : Topics) : Type 0 where
   pub leaf : kind_of t.walk.level t.walk.entry ≡ entry_kind.Leaf
   pub allows : allows_access write t.walk.entry ≡ true
 
--- The entry is what allowing the write makes of a leaf of the lowest level that forbids nothing but it.
-pub record IsFixed (level entry : ℕ) : Type 0 where
-  pub lowest : level ≡ 1
+-- The entry is what allowing the write makes of a leaf that forbids nothing but it.
+pub record IsFixed (entry : ℕ) : Type 0 where
   pub fixable : is_fixable (without_write entry) ≡ true
   pub set : with_write (without_write entry) ≡ entry
 
--- The actor holds such an entry, which allows the access, and has a mark to tell of exactly where the slot that it found has a dirty log. That an exchange
--- was won and the page marked isn't said here.
+-- The actor holds such an entry, which allows the access, and has a mark to tell of exactly where the slot that it found has a dirty log: then it is of the
+-- lowest level. That an exchange was won and the page marked isn't said here.
 pub record HasFixed (marked : Bool) (gfn : ℕ) (write : Bool) (t : Topics) : Type 0 where
   pub found : FoundSlot gfn t
   pub entry : HasEntry gfn write t
-  pub fixed : IsFixed t.walk.level t.walk.entry
+  pub fixed : IsFixed t.walk.entry
+  pub told : one_mark_tells t.walk.level t.search.logged ≡ true
   pub marks : marked ≡ t.search.logged
 
--- Its exchange was lost: this word is the guest frame's entry of the lowest level, which was read as a leaf that forbids nothing but the write, and was seen as
--- another number.
-pub record IsLost (word read seen : ℕ) (z : Sizes) (gfn : ℕ) (walk : TableWalk) : Type 0 where
+-- Its exchange was lost: this word is the guest frame's entry, which was read as a leaf that forbids nothing but the write, in a slot with a dirty log or
+-- without, and was seen as another number.
+pub record IsLost (word read seen : ℕ) (z : Sizes) (gfn : ℕ) (walk : TableWalk) (logged : Bool) : Type 0 where
   pub saw : SawEntry gfn walk
-  pub lowest : walk.level ≡ 1
+  pub told : one_mark_tells walk.level logged ≡ true
   pub is_entry : word ≡ entry_word z gfn walk
   pub holds : walk.entry ≡ seen
-  pub leaf : kind_of 1 read ≡ entry_kind.Leaf
+  pub leaf : kind_of walk.level read ≡ entry_kind.Leaf
   pub fixable : is_fixable read ≡ true
   pub differs : read ≢ seen
 
-abbrev pub IsLostFix : Cause → Sizes → ℕ → TableWalk → Type 0
-IsLostFix (Entry word read seen) z gfn walk = IsLost word read seen z gfn walk
-IsLostFix _ z gfn walk = ⊥
+abbrev pub IsLostFix : Cause → Sizes → ℕ → TableWalk → Bool → Type 0
+IsLostFix (Entry word read seen) z gfn walk logged = IsLost word read seen z gfn walk logged
+IsLostFix _ z gfn walk logged = ⊥

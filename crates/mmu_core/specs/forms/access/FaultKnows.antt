@@ -1,5 +1,5 @@
 -- What a fault knows at each of its places, from what its actor holds alone.
-use Rattle.std.specs.Prelude.{◌≡◌, ◌≢◌, ◌<◌, ◌≤◌, ◌⊎◌, ℕ, Bool, true, false, ◌&&◌, ◌||◌, ◌==◌, not, Some, None, if◌then◌else◌}
+use Rattle.std.specs.Prelude.{◌≡◌, ◌≢◌, ◌<◌, ◌≤◌, ◌⊎◌, ℕ, Bool, true, false, ◌&&◌, ◌||◌, not, Some, None, if◌then◌else◌}
 use Rattle.core_views.specs.declared.place.Cause.{Cause}
 use Rattle.core_views.specs.declared.place.Cause.TheVariants.{Open, Moved, Entry}
 use Rattle.core_views.specs.declared.place.FaultEnd.{FaultEnd}
@@ -25,7 +25,7 @@ pub use Rattle.mmu_core.specs.forms.access.FaultHolds.{LookedFor, SawUpperEnd, S
 use Rattle.mmu_core.specs.forms.access.FaultSteps.{entry_word, host_word_at}
 use Rattle.part_steps.specs.PartTasks.{is_below, word_looked}
 use Rattle.part_steps.specs.PartHoldings.{FoundSlot, HasRoleToSet, HasToFill, HoldsSet, IsOver, LookedUp, MayFix, OwnsPage, OwnsTable, SawEntry}
-use Rattle.part_steps.specs.PartHoldings.{IsEnd, MapsRun, SawNoWrites}
+use Rattle.part_steps.specs.PartHoldings.{IsEnd, MapsRun, SawNoWrites, one_mark_tells}
 use Rattle.part_steps.specs.PartSteps.{IsAtRest}
 
 -- In a section of a fast fault, without the lock, after the slot was found.
@@ -45,18 +45,18 @@ pub record Marks (fast : Bool) (gfn : ℕ) (write : Bool) (t : Topics) : Type 0 
   pub entry : HasEntry gfn write t
   pub lowest : t.walk.level ≡ 1
   pub logged : t.search.logged ≡ true
-  pub fixed : fast ≡ true → IsFixed t.walk.level t.walk.entry
+  pub fixed : fast ≡ true → IsFixed t.walk.entry
 
--- The entry is no leaf of the lowest level, or allows the write already; or slot or host may forbid this.
-abbrev pub forbids_more : SpteKind → ℕ → ℕ → Bool
-forbids_more entry_kind.Leaf level v = not (level == 1) || (can_write v || (not (host_writable v) || not (mmu_writable v)))
-forbids_more _ level v = true
+-- The entry is no leaf, or a large one in a slot with a dirty log, or allows the write already; or slot or host may forbid this.
+abbrev pub forbids_more : SpteKind → ℕ → Bool → ℕ → Bool
+forbids_more entry_kind.Leaf level logged v = not (one_mark_tells level logged) || (can_write v || (not (host_writable v) || not (mmu_writable v)))
+forbids_more _ level logged v = true
 
 -- The search has found none, and the word is 0; or the guest frame's entry, which is this word, is one in which a write can't be allowed.
 abbrev pub SawNotFast : ℕ → ℕ → Topics → Type 0
 SawNotFast word gfn t =
     ((word ≡ 0) × FoundNone gfn t)
-    ⊎ (SawEntry gfn t.walk × (t.walk.entry ≡ word) × (forbids_more (kind_of t.walk.level word) t.walk.level word ≡ true))
+    ⊎ (SawEntry gfn t.walk × (t.walk.entry ≡ word) × (forbids_more (kind_of t.walk.level word) t.walk.level t.search.logged word ≡ true))
 
 -- The host word that was looked up forbids the write.
 pub record HostForbids (gfn : ℕ) (write : Bool) (t : Topics) : Type 0 where
@@ -92,7 +92,7 @@ HasCause (Entry word read seen) z gfn t = IsInTheWay word read seen z gfn t.walk
 -- And where a fast fault begins anew: its exchange was lost.
 pub record Retries (fast : Bool) (cause : Cause) (z : Sizes) (gfn : ℕ) (t : Topics) : Type 0 where
   pub has : HasCause cause z gfn t
-  pub lost : fast ≡ true → IsLostFix cause z gfn t.walk
+  pub lost : fast ≡ true → IsLostFix cause z gfn t.walk t.search.logged
 
 -- what the end of a fault rests on
 abbrev pub FaultEndKnows : FaultEnd → Sizes → ℕ → Bool → Topics → Type 0

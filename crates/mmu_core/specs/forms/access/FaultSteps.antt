@@ -137,6 +137,6 @@ fault_next (Unshare e) z gfn write t v = Goes (End e)
 fault_next (End e) z gfn write t v = Ends e
 fault_next FastBegin z gfn write t v = Goes (FastFind false)
 fault_next (FastFind begun) z gfn write t v = Goes (if begun then fast_find_next gfn t.search.next (searched t.search v) else FastFind true)
-fault_next (FastWalk rooted) z gfn write t v = Goes (if rooted then fast_walk_next (kind_of t.walk.level v) t.walk v else FastWalk true)
+fault_next (FastWalk rooted) z gfn write t v = Goes (if rooted then fast_walk_next (kind_of t.walk.level v) t.walk.level t.search.logged v else FastWalk true)
 fault_next Fix z gfn write t v = Goes (if v == t.walk.entry then put_next true t.search.logged else End (exchange_lost true z gfn t.walk v))
 fault_next (Mark fast) z gfn write t v = Goes (over_next fast true)

@@ -25,7 +25,7 @@ use Rattle.part_steps.specs.declared.invalidations.Target.{Target}
 use Rattle.part_steps.specs.declared.invalidations.Target.TheVariants as aim
 use Rattle.part_steps.specs.declared.part_step.PartStep.{PartStep}
 use Rattle.part_steps.specs.declared.part_step.PartStep.TheVariants as part
-use Rattle.part_steps.specs.PageRuns.{is_row, is_several, level_looked, looked_on, one_look, page_next, run_looked, word_given}
+use Rattle.part_steps.specs.PageRuns.{makes_run, is_several, level_looked, looked_on, one_look, page_next, run_looked, word_given}
 use Rattle.part_steps.specs.PartTasks.{word_looked, word_next}
 use Rattle.mmu_core.specs.declared.invalidate.BeginNext.{BeginNext}
 use Rattle.mmu_core.specs.declared.invalidate.BeginNext.TheVariants as begins_next
@@ -53,7 +53,7 @@ wants_small Small = false
 
 -- Its pages may be mapped so, by what was seen of them.
 abbrev pub fits : RunChange → HostLook → HostRow → Bool
-fits (Huge level) look row = is_row level look row
+fits (Huge level) look row = makes_run level look row
 fits Small look row = true
 
 -- after a look that found v, where the line's own page was seen so, and so much of the run

@@ -57,7 +57,7 @@ use Rattle.mmu_core.proofs.forms.access.FaultSame.{over_it}
 use Rattle.mmu_laws.proofs.causes.MadeSteps.{Makes, exchange_finds, in_machine, load_finds, load_keeps, own_rests, own_sizes, stays_in, word_on}
 use Rattle.mmu_laws.proofs.causes.EntryLoaded.{fill_spares, low, unfrozen}
 use Rattle.core_views.specs.declared.place.FaultEnd.{FaultEnd}
-use Rattle.part_steps.specs.PartHoldings.{is_fixable}
+use Rattle.part_steps.specs.PartHoldings.{is_fixable, one_mark_tells}
 use Rattle.part_steps.specs.RunHoldings.{maps_run}
 
 module _ (z : Sizes) (w : World Held) (ss : List (Step Kind)) (s : Step Kind) (G : IsSound z (run mmu w ss)) (may : May mmu (run mmu w ss) s) where
@@ -235,10 +235,10 @@ module _ (z : Sizes) (w : World Held) (ss : List (Step Kind)) (s : Step Kind) (G
       lost (exchange_lost fast z gfn t.walk v) (saw step (entry_word z gfn t.walk) t.walk.entry M is here (exchange_finds z u s G may step M ex) K
       (eqb-false v t.walk.entry won))
 
-  fast_saw : (gfn : ℕ) (k : SpteKind) → Made (part.Walk gfn) → FaultSaw z a w (fast_walk_next k t.walk v) gfn (gone gfn k) more behind
+  fast_saw : (gfn : ℕ) (k : SpteKind) → Made (part.Walk gfn) → FaultSaw z a w (fast_walk_next k t.walk.level t.search.logged v) gfn (gone gfn k) more behind
   fast_saw gfn (entry_kind.Table page) M = tt
   fast_saw gfn entry_kind.Leaf M =
-      either ((t.walk.level == 1) && is_fixable v) Fix (End (NotFast v)) gfn (gone gfn entry_kind.Leaf) (entry_now gfn M) tt
+      either (one_mark_tells t.walk.level t.search.logged && is_fixable v) Fix (End (NotFast v)) gfn (gone gfn entry_kind.Leaf) (entry_now gfn M) tt
   fast_saw gfn entry_kind.Absent M = tt
   fast_saw gfn entry_kind.Frozen M = tt
 

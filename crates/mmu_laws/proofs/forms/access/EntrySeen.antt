@@ -40,10 +40,9 @@ use Rattle.part_steps.specs.PageTopics.{searched}
 use Rattle.mmu_laws.specs.turns.Removal.{ends_installed, has_installed}
 use Rattle.mmu_core.specs.machine.View.{answer_in, upd, words_after}
 use Rattle.mmu_core.proofs.machine.Columns.{upd_same}
-use Rattle.part_steps.specs.PartHoldings.{is_fixable}
+use Rattle.part_steps.specs.PartHoldings.{is_fixable, one_mark_tells}
 use Rattle.mmu_core.proofs.forms.access.LeafKnown.{fix_marks, fix_put, leaf_put, puts_marks}
 use Rattle.mmu_core.proofs.forms.access.LeafPut.{IsPut, put_at, put_is}
-use Rattle.core_views.specs.declared.topics.TableWalk.{TableWalk}
 
 -- Where a fault comes to such an end, it has just loaded or stored the entry; it is over with one only from such a place.
 abbrev pub SeesEntry : FaultNext → (ℕ → ℕ) → ℕ → Topics → Type 0
@@ -117,11 +116,11 @@ exchange_sees : (won : Bool) (gfn new_ v : ℕ) (write fast marks : Bool) (t : T
 exchange_sees true gfn new_ v write fast marks t pool lost not_ P is = put_sees gfn new_ v write fast marks t pool P is
 exchange_sees false gfn new_ v write fast marks t pool lost not_ P is = λ ends. absurd (cc (not_, ends))
 
-fast_not : (k : SpteKind) (walk : TableWalk) (v : ℕ) → ends_installed (fast_walk_next k walk v) ≡ true → ⊥
-fast_not (entry_kind.Table page) walk v is = cc is
-fast_not entry_kind.Leaf walk v is = neither ((walk.level == 1) && is_fixable v) fault.Fix (fault.End (end_of.NotFast v)) refl refl is
-fast_not entry_kind.Absent walk v is = cc is
-fast_not entry_kind.Frozen walk v is = cc is
+fast_not : (k : SpteKind) (level : ℕ) (logged : Bool) (v : ℕ) → ends_installed (fast_walk_next k level logged v) ≡ true → ⊥
+fast_not (entry_kind.Table page) level logged v is = cc is
+fast_not entry_kind.Leaf level logged v is = neither (one_mark_tells level logged && is_fixable v) fault.Fix (fault.End (end_of.NotFast v)) refl refl is
+fast_not entry_kind.Absent level logged v is = cc is
+fast_not entry_kind.Frozen level logged v is = cc is
 
 fast_finds_not : (found last : Bool)
     → ends_installed (if found then fault.FastWalk false else if last then fault.End (end_of.NotFast 0) else fault.FastFind true) ≡ true → ⊥
@@ -178,7 +177,7 @@ fault_sees (fault.FastFind true) z own gfn note write t words not_ K =
 fault_sees (fault.FastFind false) z own gfn note write t words not_ K = λ is. absurd (cc is)
 fault_sees (fault.FastWalk true) z own gfn note write t words not_ K =
     let v : ℕ = words area.Pool (pool_index (table_page t.walk) (entry_index gfn t.walk.level)) in
-    λ is. absurd (fast_not (kind_of t.walk.level v) t.walk v is)
+    λ is. absurd (fast_not (kind_of t.walk.level v) t.walk.level t.search.logged v is)
 fault_sees (fault.FastWalk false) z own gfn note write t words not_ K = λ is. absurd (cc is)
 fault_sees (fault.Unshare e) z own gfn note write t words not_ K = λ is. absurd (cc (not_, is))
 fault_sees (fault.End e) z own gfn note write t words not_ K = not_

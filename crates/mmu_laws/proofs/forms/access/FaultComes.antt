@@ -31,7 +31,7 @@ use Rattle.part_steps.specs.PartTasks.{entry_index, page_looked, table_page, wor
 use Rattle.part_steps.specs.WalkTopics.{gone_down, linked_page}
 use Rattle.mmu_core.specs.invariant.TreePart.{stands}
 use Rattle.mmu_core.proofs.forms.access.FaultScans.{KeepsScan, fault_keeps, fault_maps_not, fault_tries, maps, page_maps_not}
-use Rattle.part_steps.specs.PartHoldings.{is_fixable}
+use Rattle.part_steps.specs.PartHoldings.{is_fixable, one_mark_tells}
 use Rattle.spte_words.specs.declared.area.Area.{Area}
 use Rattle.mmu_laws.proofs.leaves.LeadsDown.{leads_at}
 use Rattle.mmu_core.proofs.orders.ClaimMade.{ClaimMade}
@@ -166,10 +166,10 @@ module _ (root set : ℕ) (pool host : ℕ → ℕ) (gfn : ℕ) (write : Bool) w
   fast_leaf false t v stands = tt
 
   pub fast_walk_alone : (k : SpteKind) (t : Topics) (v : ℕ) → pool (pool_index (table_page t.walk) (entry_index gfn t.walk.level)) ≡ v
-      → FaultAlone (fast_walk_next k t.walk v) root set pool host gfn write
+      → FaultAlone (fast_walk_next k t.walk.level t.search.logged v) root set pool host gfn write
       (record t { walk = gone_down (linked_page k) t.walk (entry_index gfn t.walk.level) v })
   fast_walk_alone (entry_kind.Table page) t v here = tt
-  fast_walk_alone entry_kind.Leaf t v here = fast_leaf ((t.walk.level == 1) && is_fixable v) _ v here
+  fast_walk_alone entry_kind.Leaf t v here = fast_leaf (one_mark_tells t.walk.level t.search.logged && is_fixable v) _ v here
   fast_walk_alone entry_kind.Absent t v here = tt
   fast_walk_alone entry_kind.Frozen t v here = tt
 

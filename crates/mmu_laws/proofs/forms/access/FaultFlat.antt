@@ -272,8 +272,9 @@ module _ (z : Sizes) (v : View) (a : ℕ) (line : Line) (gfn word : ℕ) (op : O
   fault_goes (FastWalk false) S part_ I P K R = quiet (FastWalk false) (FastWalk true) refl part_ I P R tt
   fault_goes (FastWalk true) S part_ I P K R =
       let x : ℕ = answered (FastWalk true) in
-      quiet (FastWalk true) (fast_walk_next (kind_of held.walk.level x) held.walk x) refl part_ I P R
-      (fast_walk_noted (words_behind (FastWalk true) area.Pool) gfn op (held_behind (FastWalk true)) u.notes (kind_of held.walk.level x) held.walk x)
+      quiet (FastWalk true) (fast_walk_next (kind_of held.walk.level x) held.walk.level held.search.logged x) refl part_ I P R
+      (fast_walk_noted (words_behind (FastWalk true) area.Pool) gfn op (held_behind (FastWalk true)) u.notes (kind_of held.walk.level x) held.walk.level
+      held.search.logged x)
   fault_goes Fix S part_ I P K R =
       let x : ℕ = answered Fix in
       puts Fix true held.search.logged (End (exchange_lost true (v.hand a).state.sizes gfn held.walk x)) (x == held.walk.entry) refl part_ I P R tt

@@ -10,7 +10,6 @@ use Rattle.core_views.specs.declared.place.FaultPlace.{FaultPlace}
 use Rattle.core_views.specs.declared.place.FaultPlace.TheVariants.{Bring, Share, Check, Walk, Claim}
 use Rattle.core_views.specs.declared.place.FaultPlace.TheVariants.{Leaf, Unshare, End, FastFind, FastWalk, Fix}
 use Rattle.core_views.specs.declared.sizes.Sizes.{Sizes}
-use Rattle.core_views.specs.declared.topics.TableWalk.{TableWalk}
 use Rattle.core_views.specs.declared.topics.Topics.{Topics}
 use Rattle.core_views.specs.declared.trace.Op.{Op}
 use Rattle.core_views.specs.Flat.{Notes}
@@ -28,7 +27,7 @@ use Rattle.mmu_core.specs.forms.access.FaultSteps.{after_claim, after_share, all
 use Rattle.mmu_core.specs.forms.access.FaultSteps.{page_next, snapshot_taken, walk_next, fast_walk_next, over_next, put_next}
 use Rattle.mmu_laws.specs.flat.FlatInvariant.{NotedAt, NotedLook}
 use Rattle.mmu_core.proofs.lines.EitherPlace.{either_place}
-use Rattle.part_steps.specs.PartHoldings.{is_fixable}
+use Rattle.part_steps.specs.PartHoldings.{is_fixable, one_mark_tells}
 use Rattle.part_steps.specs.RunHoldings.{maps_run}
 
 -- Where a fault stands after most of its steps the line has noted nothing, up to its look at the host, and from there on that it saw a page.
@@ -68,11 +67,11 @@ module _ (pool : ℕ → ℕ) (gfn : ℕ) (op : Op) (t : Topics) (notes : Notes)
   put_noted fast true = tt
   put_noted fast false = over_noted fast false
 
-  pub fast_walk_noted : (k : SpteKind) (walk : TableWalk) (x : ℕ) → Noted (fast_walk_next k walk x)
-  fast_walk_noted (entry_kind.Table page) walk x = tt
-  fast_walk_noted entry_kind.Leaf walk x = either_place Noted ((walk.level == 1) && is_fixable x) Fix (End (NotFast x)) tt tt
-  fast_walk_noted entry_kind.Absent walk x = tt
-  fast_walk_noted entry_kind.Frozen walk x = tt
+  pub fast_walk_noted : (k : SpteKind) (level : ℕ) (logged : Bool) (x : ℕ) → Noted (fast_walk_next k level logged x)
+  fast_walk_noted (entry_kind.Table page) level logged x = tt
+  fast_walk_noted entry_kind.Leaf level logged x = either_place Noted (one_mark_tells level logged && is_fixable x) Fix (End (NotFast x)) tt tt
+  fast_walk_noted entry_kind.Absent level logged x = tt
+  fast_walk_noted entry_kind.Frozen level logged x = tt
 
   pub fast_find_noted : (found none : Bool) → Noted (if found then FastWalk false else if none then End (NotFast 0) else FastFind true)
   fast_find_noted true none = tt

@@ -48,7 +48,7 @@ use Rattle.mmu_core.specs.machine.Outcomes.{answering, place_after}
 use Rattle.mmu_core.specs.machine.View.{View, answer_in}
 use Rattle.mmu_core.specs.orders.InvalidateSteps.{begin_next, begin_part, end_next}
 use Rattle.mmu_core.proofs.forms.host_run.RunLooks.{RunSeen, large_looked, look_of, page_own, run_seen_at}
-use Rattle.mmu_core.proofs.forms.host_run.RunLooks.RunSeen.{Large, One, Row}
+use Rattle.mmu_core.proofs.forms.host_run.RunLooks.RunSeen.{Large, One, Several}
 use Rattle.mmu_core.proofs.forms.host_run.RunTargets.{aimed_looked, run_is_aimed, target_is_small}
 use Rattle.mmu_core.proofs.held.NextPages.{next_is_won}
 use Rattle.mmu_core.proofs.invariant.PartBounded.{part_rests_at}
@@ -80,7 +80,7 @@ put_level : (page : ℕ) (change : RunChange) (look : HostLook) (row : HostRow) 
 put_level page change look row (Large large) least =
     let not_one : (host_level look.word == 1) ≡ false = (let e : nat_lt 1 (host_level look.word) ≡ true = large in grind (arith, nat_tests)) in
     inl (ap (λ (b : Bool). if b then level_looked look row else 1) not_one)
-put_level page change look row (Row level from most is small begins) least =
+put_level page change look row (Several level from most is small begins) least =
     let one = small_level look.word small least in
     inl (ap (λ n. if n == 1 then level_looked look row else 1) one ∙ is)
 put_level page change look row (One small alone) least = inr (refl, small, lowest_looked look row alone small)

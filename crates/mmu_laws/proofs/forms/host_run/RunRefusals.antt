@@ -10,7 +10,7 @@ use Rattle.core_views.specs.Host.{HostMap, is_huge}
 use Rattle.core_views.specs.HostRuns.{are_in_a_row, continues, is_aligned, is_any_huge, run_pages, run_refusal}
 use Rattle.spte_words.specs.Entries.{level_span}
 use Rattle.spte_words.specs.HostWords.{host_allows_write, host_frame, host_present}
-use Rattle.part_steps.specs.PageRuns.{is_row}
+use Rattle.part_steps.specs.PageRuns.{makes_run}
 use Rattle.mmu_core.specs.forms.host.HostSteps.{entry_of, maps_large}
 use Rattle.mmu_core.proofs.forms.access.FaultSame.{both, not_then}
 use Rattle.mmu_core.proofs.forms.host_run.RunLooks.{large_count, some_count}
@@ -123,7 +123,7 @@ first_false false b c fails = refl
 
 -- A row that is long enough, and begins where a run begins, isn't refused.
 pub row_fits : (page level word : ℕ) (row : HostRow) → 2 ≤ level → level ≤ 3 → maps_large word ≡ false
-    → is_row level (record { page = page; word = word }) row ≡ true → run_refusal (seen_row word page) page (Huge level) ≡ None
+    → makes_run level (record { page = page; word = word }) row ≡ true → run_refusal (seen_row word page) page (Huge level) ≡ None
 row_fits page level word row from most small is =
     by_alignment true (seen_row word page) page level (seen_small (run_pages level) word page small)
     (own_alignment (seen_row word page) page level word (seen_own word page) ∙ aligned)
@@ -146,7 +146,7 @@ row_fits page level word row from most small is =
 
 -- A row that is long enough, and isn't one that fits, is refused: it begins elsewhere, or its page is absent.
 pub row_unfit : (page level word : ℕ) (row : HostRow) → 2 ≤ level → level ≤ 3 → maps_large word ≡ false → row.alike ≡ true → row.looked ≡ run_pages level
-    → is_row level (record { page = page; word = word }) row ≡ false → run_refusal (seen_row word page) page (Huge level) ≡ Some NotAligned
+    → makes_run level (record { page = page; word = word }) row ≡ false → run_refusal (seen_row word page) page (Huge level) ≡ Some NotAligned
 row_unfit page level word row from most small alike looked not_row =
     by_alignment false (seen_row word page) page level (seen_small (run_pages level) word page small)
     (own_alignment (seen_row word page) page level word (seen_own word page) ∙ by (host_present word) refl)
