@@ -24,7 +24,8 @@ use mmu_core::{BeginNext, EndNext, Outcome};
 use order_twins::{begin_next, begin_part, end_next, end_part};
 use part_steps::{PartStep, Target};
 use part_twins::{
-    Hand, makes_run, is_several, level_looked, looked_on, one_look, run_looked, word_looked, word_next,
+    Hand, is_several, level_looked, looked_on, makes_run, one_look, run_looked, word_looked,
+    word_next,
 };
 use spte_words::{HostWord, Spte};
 
