@@ -12,7 +12,7 @@ use Rattle.spte_words.specs.declared.area.Area.TheVariants as area
 use Rattle.spte_words.specs.Entries.{mapped_frame}
 use Rattle.mmu_core.specs.forms.access.Cached.{covers}
 use Rattle.spte_words.specs.HostWords.{host_frame}
-use Rattle.mmu_core.specs.invariant.FramesPart.{FrameUse, IsNamed, frame_looked, number_owned}
+use Rattle.mmu_core.specs.invariant.FramesPart.{FrameUse, HasFrame, IsNamed, frame_looked, number_owned}
 use Rattle.mmu_core.specs.invariant.FramesPart.FrameUse.{Free, Outside, Page, Owned}
 use Rattle.mmu_core.specs.invariant.HeldPart.{HoldsOld}
 use Rattle.mmu_core.specs.invariant.InvalidatedPart.{may_use}
@@ -87,7 +87,7 @@ owns_number frame h = by h.topics.frames.owned refl
 abbrev pub IsHeldStill : Sizes → World Held → ℕ → ℕ → Type 0
 IsHeldStill z u other frame =
     IsNamed z.pages (word_in z u area.Host) frame
-    ⊎ HoldsOld (λ t. number_owned t.frames.owned) (actors_of z) (λ i. (hand_in mmu u i).topics) other frame
+    ⊎ HoldsOld HasFrame (actors_of z) (λ i. (hand_in mmu u i).topics) other frame
 
 pub held_look : (z : Sizes) (u : World Held) → IsSound z u → (other frame : ℕ) → other < actors_of z → LooksAtFrame frame (hand_in mmu u other).topics
     → IsHeldStill z u other frame

@@ -11,7 +11,7 @@ use Rattle.mmu_core.specs.invariant.Laws.{IsSound}
 use Rattle.mmu_core.specs.machine.Machine.{May, World, effect, hand_in, run}
 use Rattle.mmu_core.specs.invariant.PoolPart.{is_free}
 use Rattle.mmu_core.specs.machine.View.{word_in}
-use Rattle.mmu_core.specs.invariant.TopicsInvariant.{HoldsOld}
+use Rattle.mmu_core.specs.invariant.HeldPart.{HasRetired, HoldsOld}
 use Rattle.mmu_core.proofs.pages.PoolPages.{retired_no_table, retired_not_free, retired_not_owned, retired_not_slots, not_free, one_retires, one_owner}
 use Rattle.mmu_core.proofs.pages.PoolPages.{owned_not_free, owned_not_slots, set_use, table_not_free, table_not_owned}
 use Rattle.mmu_core.proofs.held.ClaimGoes.{others_hand}
@@ -46,7 +46,7 @@ module _ (z : Sizes) (u : World Held) (G : IsSound z u) where
 
   -- The page is the published slot set, or an older one that is retired, which the actor may hold still.
   abbrev IsSet : ℕ → ℕ → Type 0
-  IsSet actor page = (page ≡ slots) ⊎ HoldsOld (λ t. t.retired) (actors_of z) (λ i. (hand_in mmu u i).topics) actor page
+  IsSet actor page = (page ≡ slots) ⊎ HoldsOld HasRetired (actors_of z) (λ i. (hand_in mmu u i).topics) actor page
 
   -- The published slot set isn't free.
   set_not_free : is_free map slots ≡ false

@@ -211,7 +211,7 @@ module _ (z : Sizes) (w : World Held) (a : ℕ) (G : IsSound z w) (L : LogInvari
           let small : gfn < 2 ^ 36 = small_frame slot gfn O in
           let end_ = from_root I.tree (let most = G.holds.sizes.pool.1 in omega (arith, most)) gfn low entry small leads in
           let here : I.spot end_.0 ≡ over_frame low gfn = (spot_of I.up I.spot end_.0 _ end_.1).1 in
-          L.leaves I.up I.spot I.tree end_.0 (entry_index gfn low) gfn (all_reached I.tree end_.0 _ end_.1)
+          L.leaves I.up I.spot I.tree end_.0 (entry_index gfn low) gfn end_.3
           (omega arith, subst (λ (p : Position). gfn / level_span p.level ≡ p.prefix * 512 + entry_index gfn low) (sym here) (omega arith))
           (subst (λ (p : Position). kind_of p.level (word_in z w area.Pool (pool_index end_.0 (entry_index gfn low))) ≡ Leaf) (sym here)
           (ap (kind_of low) end_.2 ∙ leaf))

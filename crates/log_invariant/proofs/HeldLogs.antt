@@ -28,7 +28,7 @@ use Rattle.mmu_core.specs.machine.View.{View}
 use Rattle.log_invariant.specs.Covered.{IsLoggedIn}
 use Rattle.log_invariant.specs.forms.slot_change.LogBegins.{LogIsUnwatched, LogIsUnwatchedAt, is_unwatched}
 use Rattle.log_invariant.specs.LogInvariant.{LogInvariant, KeepsLogs, IsMarkingAt}
-use Rattle.mmu_core.specs.invariant.HeldPart.{HoldsOld}
+use Rattle.mmu_core.specs.invariant.HeldPart.{HasRetired, HoldsOld}
 use Rattle.mmu_core.specs.invariant.SearchPart.{SearchPart}
 use Rattle.mmu_core.specs.forms.slot_change.SlotChangeKnows.{SlotChangeKnows}
 use Rattle.spte_words.specs.Flags.{flags_logged}
@@ -83,7 +83,7 @@ pub held_logs : (z : Sizes) (v : View) (i set : ℕ) → i < actors_of z → Inv
     → (v.hand i).topics.search.set ≡ Some set → HeldLogs z v set
 held_logs z v i set lt I P G held = by (P.sets i set lt held)
   where
-    by : (set ≡ v.words area.Slots 0) ⊎ HoldsOld (λ t. t.retired) (actors_of z) (λ j. (v.hand j).topics) i set → HeldLogs z v set
+    by : (set ≡ v.words area.Slots 0) ⊎ HoldsOld HasRetired (actors_of z) (λ j. (v.hand j).topics) i set → HeldLogs z v set
     by (inl e) = record {
       had = λ id gfn slot logged holds. inl (subst (λ s. IsLoggedIn (v.words area.Pool) s id slot) (sym e) logged);
       stays = λ id slot logged. subst (λ s. IsLiveIn (v.words area.Pool) s id slot) e logged.live;

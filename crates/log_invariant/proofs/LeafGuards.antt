@@ -66,6 +66,7 @@ use Rattle.std.proofs.Common.{◌<◌, ◌≤◌, ◌∙◌, ◌≡◌, ◌≢�
 use Rattle.std.proofs.lemmas.Bool.{cases_lt}
 use Rattle.std.proofs.lemmas.Bool.Decides.{nat_tests}
 use Rattle.std.specs.Prelude.{◌==◌, Bool, None, Option, Some, false, true}
+use Rattle.mmu_core.proofs.pages.Linked.{walk_linked}
 
 -- What the part of the invariant on leaves says of a view.
 abbrev pub LeavesNow : Sizes → View → Type 0
@@ -242,7 +243,8 @@ module _ (z : Sizes) (v : View) (a : ℕ) (line : Line) (command : Command) (p :
       L : IsLeafFor (v.words area.Pool) (v.words area.Host) (v.words area.Slots 0) walk.level other
           (v.words area.Pool (pool_index (table_page walk) (entry_index gfn walk.level)))
       L =
-          leaf_for z v P (table_page walk) walk.level walk.prefix (entry_index gfn walk.level) other ((P.held a S.there).table M.saw.over.there)
+          leaf_for z v P (table_page walk) walk.level walk.prefix (entry_index gfn walk.level) other (walk_linked z v P a S.there M.saw.over.there)
+          ((P.held a S.there).table M.saw.over.there)
           (omega arith) (let span = M.saw.over.span in omega (arith, in_run, span)) (ap (kind_of walk.level) won ∙ M.leaf)
 
       same : L.slot ≡ slot

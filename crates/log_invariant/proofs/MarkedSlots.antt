@@ -14,7 +14,7 @@ use Rattle.log_invariant.specs.LogInvariant.{IsMarkingAt, LogInvariant}
 use Rattle.mmu_core.proofs.held.FreshFrames.{behind_it}
 use Rattle.mmu_core.proofs.machine.ColumnsTell.{some_is}
 use Rattle.mmu_core.proofs.machine.PartStepping.{IsPart}
-use Rattle.mmu_core.specs.invariant.HeldPart.{HoldsOld}
+use Rattle.mmu_core.specs.invariant.HeldPart.{HasRetired, HoldsOld}
 use Rattle.mmu_core.specs.invariant.Invariant.{Invariant, KnowsPart}
 use Rattle.mmu_core.specs.invariant.TopicsInvariant.{TopicsInvariant}
 use Rattle.mmu_core.specs.machine.View.{View}
@@ -70,7 +70,7 @@ module _ (z : Sizes) (v : View) (a : ℕ) (S : IsPart z v a part.Mark) (I : Inva
       subst (λ set. IsLoggedIn (v.words area.Pool) set (h.topics.search.id - 1) h.topics.search.slot)
       (by (P.sets a marks_in.set S.there marks_in.held)) marks_in.logged
     where
-      by : (marks_in.set ≡ v.words area.Slots 0) ⊎ HoldsOld (λ t. t.retired) (actors_of z) (λ i. (v.hand i).topics) a marks_in.set
+      by : (marks_in.set ≡ v.words area.Slots 0) ⊎ HoldsOld HasRetired (actors_of z) (λ i. (v.hand i).topics) a marks_in.set
           → marks_in.set ≡ v.words area.Slots 0
       by (inl same) = same
       by (inr old_) = absurd (none old_.by marks_in.set old_.there old_.leaves)

@@ -13,10 +13,11 @@ use Rattle.part_steps.specs.WalkTopics.{gone_down}
 use Rattle.mmu_core.proofs.pages.NoneBelow.{entry_over, leads_on, leaf_ends, none_below, one_end, over_frame}
 use Rattle.mmu_core.proofs.pages.SweptEntries.{below_swept, both_true, entry_below, in_entry, regrouped, starts_at}
 use Rattle.mmu_core.specs.invariant.AllOver.{AllOver}
-use Rattle.mmu_core.specs.invariant.TreePart.{Position, TreePart, Use, at, stands}
+use Rattle.mmu_core.specs.invariant.TreePart.{HangsBelow, Position, TreePart, Use, at, stands}
 
 module _ {pages root : ℕ} {role pool : ℕ → ℕ} {up : ℕ → Use} {spot : ℕ → Position} (T : TreePart pages root role pool up spot)
-    (walk : TableWalk) (at_walk : stands up spot (table_page walk) ≡ Some (at walk.level walk.prefix)) (index : ℕ) (low : index < 512) where
+    (walk : TableWalk) (linked : HangsBelow up root (table_page walk)) (at_walk : stands up spot (table_page walk) ≡ Some (at walk.level walk.prefix))
+    (index : ℕ) (low : index < 512) where
   -- the entry of the walk's table
   abbrev pub entry_at : ℕ
   entry_at = pool (pool_index (table_page walk) index)
@@ -35,7 +36,7 @@ module _ {pages root : ℕ} {role pool : ℕ → ℕ} {up : ℕ → Use} {spot :
       -- It leads nowhere.
       led : leads_on (kind_of walk.level entry_at) ≡ false → ⊥
       led nowhere =
-          none_below T (table_page walk) other walk.level (at_walk ∙ ap (λ r. Some (at walk.level r)) prefix)
+          none_below T (table_page walk) other walk.level linked (at_walk ∙ ap (λ r. Some (at walk.level r)) prefix)
           (ap (λ i. leads_on (kind_of walk.level (pool (pool_index (table_page walk) i)))) (sym same) ∙ nowhere) l j other R O refl leaf
 
       -- It is a leaf, and so the same one.
@@ -51,7 +52,7 @@ module _ {pages root : ℕ} {role pool : ℕ → ℕ} {up : ℕ → Use} {spot :
 
           one : (walk.level ≡ (spot l).level) × (table_page walk ≡ l)
           one =
-              one_end T (table_page walk) l other walk.level (spot l).level (at_walk ∙ ap (λ r. Some (at walk.level r)) prefix) at_l.0
+              one_end T (table_page walk) l other walk.level (spot l).level linked R (at_walk ∙ ap (λ r. Some (at walk.level r)) prefix) at_l.0
               (leaf_ends walk.level _ (ap (λ i. kind_of walk.level (pool (pool_index (table_page walk) i))) (sym same) ∙ here))
               (leaf_ends (spot l).level _ (ap (λ i. kind_of (spot l).level (pool (pool_index l i))) (sym at_l.1) ∙ leaf))
 
@@ -103,7 +104,7 @@ passed_over start gfn x o walk from most over first level other behind below = b
 
 -- So no links lead to a leaf that allows writes over what is passed.
 module _ {pages root : ℕ} {role pool : ℕ → ℕ} {up : ℕ → Use} {spot : ℕ → Position} (T : TreePart pages root role pool up spot)
-    (walk : TableWalk) (at_walk : stands up spot (table_page walk) ≡ Some (at walk.level walk.prefix)) where
+    (walk : TableWalk) (linked : HangsBelow up root (table_page walk)) (at_walk : stands up spot (table_page walk) ≡ Some (at walk.level walk.prefix)) where
   pub passed_denies : (start gfn x : ℕ) (o : Option ℕ) → gfn / level_span walk.level / 512 ≡ walk.prefix → start ≤ gfn
       → pool (pool_index (table_page walk) (entry_index gfn walk.level)) ≡ x → 1 ≤ (gone_down o walk (entry_index gfn walk.level) x).level
       → AllOver up spot pool root (λ level other w. gfn ≤ other → other < swept_to false start (gone_down o walk (entry_index gfn walk.level) x)
@@ -111,5 +112,5 @@ module _ {pages root : ℕ} {role pool : ℕ → ℕ} {up : ℕ → Use} {spot :
   passed_denies start gfn x o over first is level l j other R O behind below leaf writes =
       let there = T.there (table_page walk) _ at_walk in
       let passed = passed_over start gfn x o walk there.1 there.2 over first level other behind below in
-      none_allows T walk at_walk (entry_index gfn walk.level) (omega arith)
+      none_allows T walk linked at_walk (entry_index gfn walk.level) (omega arith)
       (subst (λ w. has_done false (can_write w) (kind_of walk.level w) ≡ true) (sym is) passed.0) l j other R O passed.1 leaf writes

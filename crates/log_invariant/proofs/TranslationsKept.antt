@@ -42,6 +42,7 @@ use Rattle.log_invariant.specs.LogInvariant.{AreGuarded, LeafIsGuarded, LogInvar
 use Rattle.log_invariant.proofs.CachesCarried.{AsksStill}
 use Rattle.log_invariant.proofs.CoveredKept.{AllGuarded, IsGuardedNow}
 use Rattle.log_invariant.proofs.forms.slot_change.UsesExcused.{allowed_used}
+use Rattle.mmu_core.proofs.pages.Linked.{walk_linked}
 
 -- So it is in a view.
 abbrev pub CachedNow : Sizes → View → Type 0
@@ -97,7 +98,7 @@ module _ (z : Sizes) (v : View) (a : ℕ) (P : TopicsInvariant z v) (G : LogInva
       let span = over.span in
       subst (λ (p : Position). LeafIsGuarded (AllGuarded z v ExcusesLeaf) p.level other (entry gfn)) here
       (G.leaves P.up P.spot P.tree (table_page walk) (entry_index gfn walk.level) other
-      (all_reached P.tree (table_page walk) (at walk.level walk.prefix) at_walk) (
+      (walk_linked z v P a there over.there) (
         omega arith,
         subst (λ (p : Position). other / level_span p.level ≡ p.prefix * 512 + entry_index gfn walk.level) (sym here)
             (omega (arith, span, same)),

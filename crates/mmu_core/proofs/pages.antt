@@ -12,6 +12,7 @@ pub mod PutLeaves
 pub mod EntryStill
 pub mod ProtectedLeaf
 pub mod LoadedKept
+pub mod Linked
 pub mod NoneBelow
 pub mod SweptEntries
 pub mod SweptKept

@@ -55,6 +55,7 @@ use Rattle.mmu_core.proofs.pages.TreePlaces.{all_reached}
 use Rattle.mmu_core.proofs.words.PartTopics.{is_there, part_topics_is}
 use Rattle.mmu_core.proofs.held.FlushSteps.{KeepsClean, part_flushed, touch_flushed}
 pub use Rattle.mmu_core.proofs.held.FlushSteps.{FlushAt}
+use Rattle.mmu_core.proofs.pages.Linked.{walk_linked}
 
 -- ---- Behind a task.
 
@@ -124,7 +125,7 @@ module _ (z : Sizes) (v : View) (a : ℕ) (I : TopicsInvariant z v) where
       let span = over.span in
       subst (λ (p : Position). IsNoLeafIn (v.hand i).topics.invalidations.own p.level other (entry gfn)) here
       (I.zapped i lt opened (omega (arith, asked)) (table_page walk) (entry_index gfn walk.level) other
-      (all_reached I.tree (table_page walk) (at walk.level walk.prefix) at_walk) (
+      (walk_linked z v I a there over.there) (
         omega arith,
         subst (λ (p : Position). other / level_span p.level ≡ p.prefix * 512 + entry_index gfn walk.level) (sym here)
             (omega (arith, span, same)),

@@ -97,10 +97,6 @@ watch_passes_nobody z v a index S I i ne lt inside unwatched =
     reached (inl e) = by 0 (omega arith) e
     reached (inr e) = by (v.hand a).topics.watched unwatched e
 
-pub watch_passes_none : (z : Sizes) (v : View) (a index : ℕ) → IsPart z v a (part.Watch index) → TopicsInvariant z v → (i : ℕ) → i ≢ a → i < actors_of z
-    → (v.hand i).topics.stay ≡ Section → (v.hand a).topics.watched ≤ i → index + (if in_section (v.words area.State index) then 0 else 1) ≤ i
-watch_passes_none z v a index S I i ne lt section unwatched = watch_passes_nobody z v a index S I i ne lt (ap is_outside section) unwatched
-
 -- Who has watched all others has passed each of them.
 pub all_passed : (z : Sizes) (h : Held) (a i : ℕ) → h.state.sizes ≡ z → own_index h ≡ a → actors_of h.state.sizes ≤ next_watched (own_index h) h.topics.watched
     → i < actors_of z → i ≢ a → h.topics.watched ≤ i → ⊥

@@ -16,12 +16,12 @@ use Rattle.part_steps.specs.declared.part_step.PartStep.TheVariants as part
 use Rattle.part_steps.specs.FrameHoldings.{revises}
 use Rattle.part_steps.specs.FrameTopics.{frame_after, word_copied, word_stored}
 use Rattle.part_steps.specs.PartTasks.{page_looked, word_looked}
-use Rattle.part_steps.specs.StayTopics.{is_loose}
-use Rattle.mmu_core.specs.invariant.FramesPart.{IsNamed, LookedFramesPart, frame_looked, number_owned}
+use Rattle.part_steps.specs.StayTopics.{is_loose, is_outside}
+use Rattle.mmu_core.specs.invariant.FramesPart.{HasLookedAt, IsNamed, LookedFramesPart, HasFrame, frame_looked, number_owned}
 use Rattle.mmu_core.specs.invariant.HeldPart.{HoldsOld}
 use Rattle.mmu_core.specs.invariant.TopicsInvariant.{TopicsInvariant}
 use Rattle.mmu_core.specs.machine.View.{View, part_stepped, upd}
-use Rattle.mmu_core.proofs.held.InSection.{all_passed, watch_passes_none}
+use Rattle.mmu_core.proofs.held.InSection.{all_passed, watch_passes_nobody}
 use Rattle.mmu_core.proofs.held.LooksKept.{page_there}
 use Rattle.mmu_core.proofs.held.Retired.{OldStays, OwnStays, held_quiet, held_same, held_still, retired_now}
 use Rattle.mmu_core.proofs.machine.Columns.{same_or, upd_other, upd_same}
@@ -70,17 +70,17 @@ stored_number (Some o) = refl
 -- ---- The host words stay.
 module _ (z : Sizes) (v : View) (a : ℕ) (h : Held) (I : TopicsInvariant z v) where
   -- The actor owns the frame that it owned.
-  looked_same : OwnStays looked owned (actors_of z) v.hand a h (IsNamed z.pages (v.words area.Host)) → owned h.topics ≡ owned (v.hand a).topics
+  looked_same : OwnStays HasLookedAt HasFrame (actors_of z) v.hand a h (IsNamed z.pages (v.words area.Host)) → owned h.topics ≡ owned (v.hand a).topics
       → h.topics.watched ≡ (v.hand a).topics.watched → LookedFramesPart z (actors_of z) (v.words area.Host) (λ i. (upd v.hand a h i).topics)
   looked_same own same watched =
-      held_quiet looked owned (actors_of z) v.hand a h (IsNamed z.pages (v.words area.Host)) own same watched I.looked_frames
+      held_quiet HasLookedAt HasFrame (actors_of z) v.hand a h (IsNamed z.pages (v.words area.Host)) own (λ k left. same ∙ left) watched I.looked_frames
 
   -- It has looked at nothing new.
   looked_stay : looked h.topics ≡ looked (v.hand a).topics → h.topics.stay ≡ (v.hand a).topics.stay
-      → OldStays looked owned (actors_of z) v.hand a h (IsNamed z.pages (v.words area.Host))
+      → OldStays HasLookedAt HasFrame (actors_of z) v.hand a h (IsNamed z.pages (v.words area.Host))
       → LookedFramesPart z (actors_of z) (v.words area.Host) (λ i. (upd v.hand a h i).topics)
   looked_stay same stays old =
-      held_same looked owned (actors_of z) v.hand a h (IsNamed z.pages (v.words area.Host)) (λ k e. inr (sym same ∙ e, stays)) old I.looked_frames
+      held_same HasLookedAt HasFrame (actors_of z) v.hand a h (IsNamed z.pages (v.words area.Host)) (λ k e. inr (sym same ∙ e, stays)) old I.looked_frames
 
 -- ---- A host word is exchanged.
 
@@ -107,9 +107,9 @@ module _ (z : Sizes) (v : View) (a : ℕ) (h : Held) (put : ℕ) (I : TopicsInva
       → Turns (host_frame (host page)) (host_frame put) (owned t) (owned h.topics) h.topics.watched
       → LookedFramesPart z (actors_of z) (upd host page put) (λ i. (upd v.hand a h i).topics)
   looked_exchanged some at later turned =
-      held_still looked owned (actors_of z) v.hand a h (IsNamed z.pages host) Now (λ k e. inl (now k e)) (λ k e used. now k e)
+      held_still HasLookedAt HasFrame (actors_of z) v.hand a h (IsNamed z.pages host) Now (λ k e. inl (now k e)) (λ k e used. now k e)
       (λ i k ne lt e used. others i k ne (looked_inside (v.hand i).topics.host (v.hand i).topics.stay k e) used (same_or used.0 page) turned)
-      (λ i k ne lt section left unwatched. old i k left (later i unwatched) turned) I.looked_frames
+      (λ i k ne lt inside left unwatched. old i k left (later i unwatched) turned) I.looked_frames
     where
       has_frame : (k : ℕ) → host_frame put ≡ k → Now k
       has_frame k is = (page, page_there z v a I there some, ap host_frame (upd_same host page put) ∙ is)
@@ -119,11 +119,11 @@ module _ (z : Sizes) (v : View) (a : ℕ) (h : Held) (put : ℕ) (I : TopicsInva
 
       others : (i k : ℕ) → i ≢ a → (v.hand i).topics.stay ≡ Section → (N : IsNamed z.pages host k) → (N.0 ≡ page) ⊎ (N.0 ≢ page)
           → Turns (host_frame (host page)) (host_frame put) (owned t) (owned h.topics) h.topics.watched
-          → Now k ⊎ HoldsOld owned (actors_of z) (λ j. (upd v.hand a h j).topics) i k
+          → Now k ⊎ HoldsOld HasFrame (actors_of z) (λ j. (upd v.hand a h j).topics) i k
       others i k ne section N (inr apart) T = inl (N.0, N.1, ap host_frame (upd_other host page N.0 put apart) ∙ N.2)
       others i k ne section N (inl e) (inl stays) = inl (has_frame k (stays.0 ∙ ap (λ q. host_frame (host q)) (sym e) ∙ N.2))
       others i k ne section N (inl e) (inr turns) =
-          inr (retired_now looked owned (actors_of z) v.hand a h i k there ne section
+          inr (retired_now HasLookedAt HasFrame (actors_of z) v.hand a h i k there ne (ap is_outside section)
           (turns.0 ∙ ap Some (ap (λ q. host_frame (host q)) (sym e) ∙ N.2), omega (arith, turns.2)))
 
       old : (i k : ℕ) → owned t ≡ Some k → h.topics.watched ≤ i
@@ -214,18 +214,18 @@ looked_after z v a note (part.Host page) =
       this_frame (record { page = page; word = v.words area.Host page }) (v.hand a).topics.stay k e,
     )) refl refl
 looked_after z v a note (part.Watch index) =
-    λ S I. looked_stay z v a _ I refl refl (λ i k ne lt section left unwatched. inr (left, watch_passes_none z v a index S I i ne lt section unwatched))
-looked_after z v a note part.Publish = λ S I. looked_stay z v a _ I refl refl (λ i k ne lt section left unwatched. inr (left, omega arith))
+    λ S I. looked_stay z v a _ I refl refl (λ i k ne lt inside left unwatched. inr (left, watch_passes_nobody z v a index S I i ne lt inside unwatched))
+looked_after z v a note part.Publish = λ S I. looked_stay z v a _ I refl refl (λ i k ne lt inside left unwatched. inr (left, omega arith))
 looked_after z v a note part.Frame =
     λ S I. looked_stay z v a _ I refl refl
-    (λ i k ne lt section left unwatched. absurd (let none = ap number_owned S.needs.0 in cc (none, left)))
+    (λ i k ne lt inside left unwatched. absurd (let none = ap number_owned S.needs.0 in cc (none, left)))
 looked_after z v a note (part.Copy index) =
     λ S I. looked_same z v a _ I (λ k e. inr (e, refl)) (copied_number (v.hand a).topics.frames.owned _) refl
 looked_after z v a note (part.Store index) =
     λ S I. looked_same z v a _ I (λ k e. inr (e, refl)) (stored_number (v.hand a).topics.frames.owned) refl
 looked_after z v a note part.GiveFrame =
     λ S I. looked_stay z v a _ I refl refl
-    (λ i k ne lt section left unwatched. absurd (all_passed z (v.hand a) a i S.sizes S.own_place S.needs.watched lt ne unwatched))
+    (λ i k ne lt inside left unwatched. absurd (all_passed z (v.hand a) a i S.sizes S.own_place S.needs.watched lt ne unwatched))
 looked_after z v a note part.Bring = brought_looked z v a note
 looked_after z v a note (part.Change new_) = change_looked z v a note new_
 looked_after z v a note part.ChangeNext = next_looked z v a note

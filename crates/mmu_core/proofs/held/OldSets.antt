@@ -9,7 +9,7 @@ use Rattle.core_views.specs.Sizes.{actors_of}
 use Rattle.spte_words.specs.declared.area.Area.TheVariants as area
 use Rattle.part_steps.specs.declared.part_step.PartStep.{PartStep}
 use Rattle.part_steps.specs.declared.part_step.PartStep.TheVariants as part
-use Rattle.mmu_core.specs.invariant.HeldPart.{HoldsOld, OldSetsPart}
+use Rattle.mmu_core.specs.invariant.HeldPart.{HasRetired, HoldsOld, OldSetsPart}
 use Rattle.part_steps.specs.PartTasks.{own_index, part_task, table_page}
 use Rattle.mmu_core.specs.invariant.SlotSetPart.{AreSlots}
 use Rattle.mmu_core.specs.invariant.TopicsInvariant.{TopicsInvariant}
@@ -96,7 +96,7 @@ pub held_words_stay : (z : Sizes) (v : View) (a : ℕ) (step : PartStep) (note :
     → SetStays k (v.words area.Pool) ((part_stepped a step note v).words area.Pool)
 held_words_stay z v a step note S I i k lt is = by (is_publish step) refl
   where
-    from : is_publish step ≡ false → (k ≡ (part_stepped a step note v).words area.Slots 0) ⊎ HoldsOld (λ t. t.retired) (actors_of z) (λ j.
+    from : is_publish step ≡ false → (k ≡ (part_stepped a step note v).words area.Slots 0) ⊎ HoldsOld HasRetired (actors_of z) (λ j.
         ((part_stepped a step note v).hand j).topics) i k → SetStays k (v.words area.Pool) ((part_stepped a step note v).words area.Pool)
     from never (inl e) =
         subst (λ s. SetStays s (v.words area.Pool) ((part_stepped a step note v).words area.Pool))
@@ -114,7 +114,7 @@ pub held_are_slots : (z : Sizes) (v : View) (a k : ℕ) → a < actors_of z → 
     → (v.hand a).topics.search.set ≡ Some k → AreSlots z (v.words area.Pool) k
 held_are_slots z v a k lt I published held = by (I.sets a k lt held)
   where
-    by : (k ≡ v.words area.Slots 0) ⊎ HoldsOld (λ t. t.retired) (actors_of z) (λ j. (v.hand j).topics) a k → AreSlots z (v.words area.Pool) k
+    by : (k ≡ v.words area.Slots 0) ⊎ HoldsOld HasRetired (actors_of z) (λ j. (v.hand j).topics) a k → AreSlots z (v.words area.Pool) k
     by (inl e) = subst (AreSlots z (v.words area.Pool)) (sym e) published
     by (inr H) = I.old_sets H.by k H.there H.leaves
 

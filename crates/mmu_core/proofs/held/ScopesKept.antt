@@ -23,7 +23,7 @@ use Rattle.core_views.specs.declared.topics.PageRun.{PageRun}
 use Rattle.part_steps.specs.InvalidationRange.{gfn_behind, has_found, invalidated_by, page_looked, run_of_look}
 use Rattle.part_steps.specs.PageRuns.{changed_more, is_single, level_looked, run_of}
 use Rattle.part_steps.specs.PartTasks.{page_to_change, word_next}
-use Rattle.mmu_core.specs.invariant.HeldPart.{HoldsOld}
+use Rattle.mmu_core.specs.invariant.HeldPart.{HasRetired, HoldsOld}
 use Rattle.mmu_core.specs.invariant.InvalidatedPart.{GivesOne, HasCollected, IsOfPages, ScopePart, SlotGives}
 use Rattle.mmu_core.specs.invariant.SlotSetPart.{IsLiveIn}
 use Rattle.mmu_core.specs.invariant.TopicsInvariant.{TopicsInvariant}
@@ -37,7 +37,7 @@ use Rattle.mmu_core.proofs.slots.LiveStays.{SetStays, published_stays}
 use Rattle.mmu_core.proofs.slots.SlotsStay.{is_live_stays, is_live_was}
 use Rattle.mmu_core.proofs.words.PartTopics.{behind_step, part_behind}
 use Rattle.mmu_core.proofs.words.PartWords.{slots_are, slots_same}
-use Rattle.part_steps.specs.StayTopics.{has_lock}
+use Rattle.part_steps.specs.StayTopics.{has_lock, is_outside}
 use Rattle.part_steps.specs.PartTopics.{part_topics}
 use Rattle.part_steps.specs.PartTasks.{part_task}
 use Rattle.mmu_core.proofs.forms.access.FaultSame.{both}
@@ -115,9 +115,9 @@ module _ (z : Sizes) (v : View) (a : ℕ) (I : TopicsInvariant z v) (there : a <
   searched_published : (set : ℕ) → t.stay ≡ Outside → t.search.set ≡ Some set → set ≡ v.words area.Slots 0
   searched_published set out held = by (I.sets a set there held)
     where
-      by : (set ≡ v.words area.Slots 0) ⊎ HoldsOld (λ t. t.retired) (actors_of z) (λ j. (v.hand j).topics) a set → set ≡ v.words area.Slots 0
+      by : (set ≡ v.words area.Slots 0) ⊎ HoldsOld HasRetired (actors_of z) (λ j. (v.hand j).topics) a set → set ≡ v.words area.Slots 0
       by (inl e) = e
-      by (inr H) = absurd (let inside = H.section in cc (out, inside))
+      by (inr H) = absurd (let inside = H.inside in cc (out, inside))
 
   page_scope : (page : ℕ) → IsOpening (aim.Page page) t → t.invalidations.own ≡ invalidated_by (aim.Page page) t.search t.row
       → AreApart (v.words area.Pool) (v.words area.Slots 0) → IsOfPages (v.words area.Pool) (v.words area.Slots 0) t.invalidations.own

@@ -13,7 +13,7 @@ use Rattle.spte_words.specs.HostWords.{host_allows_write, host_frame, host_prese
 use Rattle.spte_words.proofs.ReadsHost.{host_has_frame}
 use Rattle.part_steps.specs.PartBounds.{IsAtLeafLevel}
 use Rattle.part_steps.specs.PartBounds.{CountersPart}
-use Rattle.mmu_core.specs.invariant.HeldPart.{HeldPart, HoldsOld}
+use Rattle.mmu_core.specs.invariant.HeldPart.{HasRetired, HeldPart, HoldsOld}
 use Rattle.mmu_core.specs.invariant.HostWordsPart.{owns_page}
 use Rattle.mmu_core.specs.invariant.Invariant.{Invariant, OwnLines}
 use Rattle.mmu_core.specs.invariant.SlotSetPart.{Fits, IsLiveIn}
@@ -86,7 +86,7 @@ part_rests_at z v i I P there = record {
     set_there : (k : ℕ) → h.topics.search.set ≡ Some k → k < z.pool
     set_there k is = by (P.sets i k there is)
       where
-        by : (k ≡ v.words area.Slots 0) ⊎ HoldsOld (λ t. t.retired) (actors_of z) (λ j. (v.hand j).topics) i k → k < z.pool
+        by : (k ≡ v.words area.Slots 0) ⊎ HoldsOld HasRetired (actors_of z) (λ j. (v.hand j).topics) i k → k < z.pool
         by (inl e) = subst (λ n. n < z.pool) (sym e) (slots_there P.uses)
         by (inr O) = left_there P.uses O.by k O.there O.leaves
 

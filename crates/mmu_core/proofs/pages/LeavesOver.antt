@@ -31,7 +31,6 @@ use Rattle.mmu_core.proofs.pages.Standing.{spot_after, spot_of, up_after}
 use Rattle.mmu_core.proofs.held.KeptEmpty.{page_empty, slot_empty}
 use Rattle.mmu_core.proofs.held.FreshFrames.{behind_it, leaf_brought, leaf_same}
 use Rattle.mmu_core.proofs.pages.PutLeaves.{put_leaf}
-use Rattle.mmu_core.proofs.pages.TreePlaces.{all_reached}
 use Rattle.part_steps.specs.InvalidationRange.{page_looked}
 use Rattle.mmu_core.specs.invariant.InvalidatedPart.{SlotGives}
 use Rattle.mmu_core.proofs.machine.Columns.{same_or}
@@ -252,13 +251,14 @@ leaves_kept z v a part.ChangeNext note S I = next_leaves z v a note S I
 leaves_kept z v a part.Publish note S I = published_leaves z v a note S I
 leaves_kept z v a step note S I = quiet_leaves z v a step note S I refl refl
 
--- A leaf in a table that stands here is the one for each guest frame that its entry is over.
-pub leaf_for : (z : Sizes) (v : View) (I : TopicsInvariant z v) (k level prefix entry gfn : ℕ) → stands I.up I.spot k ≡ Some (at level prefix)
+-- A leaf in a linked table that stands here is the one for each guest frame that its entry is over.
+pub leaf_for : (z : Sizes) (v : View) (I : TopicsInvariant z v) (k level prefix entry gfn : ℕ) → HangsBelow I.up (v.words area.Root 0) k
+    → stands I.up I.spot k ≡ Some (at level prefix)
     → entry < 512 → gfn / level_span level ≡ prefix * 512 + entry
     → kind_of level (v.words area.Pool (pool_index k entry)) ≡ entry_kind.Leaf
     → IsLeafFor (v.words area.Pool) (v.words area.Host) (v.words area.Slots 0) level gfn (v.words area.Pool (pool_index k entry))
-leaf_for z v I k level prefix entry gfn at_k low over =
+leaf_for z v I k level prefix entry gfn R at_k low over =
     let here : I.spot k ≡ at level prefix = (spot_of I.up I.spot k (at level prefix) at_k).1 in
     subst (λ (p : Position). LeafIsFor (v.words area.Pool) (v.words area.Host) (v.words area.Slots 0) p.level gfn (v.words area.Pool (pool_index k entry))) here
-    (I.leaves k entry gfn (all_reached I.tree k (at level prefix) at_k)
+    (I.leaves k entry gfn R
     (low, subst (λ (p : Position). gfn / level_span p.level ≡ p.prefix * 512 + entry) (sym here) over))

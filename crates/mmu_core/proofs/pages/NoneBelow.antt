@@ -16,7 +16,7 @@ use Rattle.mmu_core.specs.invariant.AllOver.{AllOver, IsEntryOver}
 use Rattle.mmu_core.specs.invariant.TreePart.{Position, HangsBelow, TreePart, Use, at, is_table, stands}
 use Rattle.mmu_core.proofs.pages.AllOver.{reached_table}
 use Rattle.mmu_core.proofs.pages.Standing.{at_spot, one_position}
-use Rattle.mmu_core.proofs.pages.TreePlaces.{IsLinked, all_reached, linked, one_place, root_stands}
+use Rattle.mmu_core.proofs.pages.TreePlaces.{IsLinked, linked, one_place, root_stands}
 
 -- The entry is a link or a leaf.
 abbrev pub leads_on : SpteKind → Bool
@@ -41,8 +41,9 @@ abbrev pub over_frame : ℕ → ℕ → Position
 over_frame level gfn = at level (gfn / level_span level / 512)
 
 -- The entry of a table of the level over the guest frame is a link.
-record LinksAt (pool : ℕ → ℕ) (up : ℕ → Use) (spot : ℕ → Position) (gfn level : ℕ) : Type 0 where
+record LinksAt (root : ℕ) (pool : ℕ → ℕ) (up : ℕ → Use) (spot : ℕ → Position) (gfn level : ℕ) : Type 0 where
   table : ℕ
+  chain : HangsBelow up root table
   here : stands up spot table ≡ Some (over_frame level gfn)
   page : ℕ
   link : pool (pool_index table (entry_index gfn level)) ≡ table_word page
@@ -57,9 +58,10 @@ nowhere_ends level w nowhere page upper is =
     cc (leads, nowhere)
 
 module _ {pages root : ℕ} {role pool : ℕ → ℕ} {up : ℕ → Use} {spot : ℕ → Position} (T : TreePart pages root role pool up spot) where
-  -- Above a table over the guest frame there is one over it whose entry is a link.
-  links_above : (k gfn level : ℕ) → level < 4 → stands up spot k ≡ Some (over_frame level gfn) → LinksAt pool up spot gfn (level + 1)
-  links_above k gfn level lower at_k = by (linked T k (over_frame level gfn) (all_reached T k (over_frame level gfn) at_k) at_k)
+  -- Above a linked table over the guest frame there is one over it whose entry is a link.
+  links_above : (k gfn level : ℕ) → level < 4 → HangsBelow up root k → stands up spot k ≡ Some (over_frame level gfn)
+      → LinksAt root pool up spot gfn (level + 1)
+  links_above k gfn level lower R at_k = by (linked T k (over_frame level gfn) R at_k)
     where
       from : 1 ≤ level
       from = (T.there k (over_frame level gfn) at_k).1
@@ -67,7 +69,7 @@ module _ {pages root : ℕ} {role pool : ℕ → ℕ} {up : ℕ → Use} {spot :
       span : gfn / level_span level / 512 ≡ gfn / level_span (level + 1)
       span = span_up gfn level from
 
-      by : (k ≡ root) ⊎ ((links : ℕ) × IsLinked pool up spot root links k (over_frame level gfn)) → LinksAt pool up spot gfn (level + 1)
+      by : (k ≡ root) ⊎ ((links : ℕ) × IsLinked pool up spot root links k (over_frame level gfn)) → LinksAt root pool up spot gfn (level + 1)
       by (inl e) =
           let top : level ≡ 4 = ap (λ (p : Position). p.level) (one_position (sym at_k ∙ ap (stands up spot) e ∙ root_stands T)) in
           absurd (omega (arith, top, lower))
@@ -75,22 +77,24 @@ module _ {pages root : ℕ} {role pool : ℕ → ℕ} {up : ℕ → Use} {spot :
           let K = found.1 in
           record {
             table = K.parent;
+            chain = (found.0, K.chain);
             here = K.above ∙ ap (λ r. Some (at (level + 1) (r / 512))) span;
             page = k;
             link = sym (ap (λ r. pool (pool_index K.parent (r % 512))) span) ∙ K.link;
           }
 
   -- So there is one of each level above.
-  links_up : (n k gfn level : ℕ) → level + suc n ≤ 4 → stands up spot k ≡ Some (over_frame level gfn) → LinksAt pool up spot gfn (level + suc n)
-  links_up zero k gfn level most at_k = subst (LinksAt pool up spot gfn) (omega arith) (links_above k gfn level (omega (arith, most)) at_k)
-  links_up (suc n) k gfn level most at_k =
-      let L = links_above k gfn level (omega (arith, most)) at_k in
-      subst (LinksAt pool up spot gfn) (omega arith) (links_up n L.table gfn (level + 1) (omega (arith, most)) L.here)
+  links_up : (n k gfn level : ℕ) → level + suc n ≤ 4 → HangsBelow up root k → stands up spot k ≡ Some (over_frame level gfn)
+      → LinksAt root pool up spot gfn (level + suc n)
+  links_up zero k gfn level most R at_k = subst (LinksAt root pool up spot gfn) (omega arith) (links_above k gfn level (omega (arith, most)) R at_k)
+  links_up (suc n) k gfn level most R at_k =
+      let L = links_above k gfn level (omega (arith, most)) R at_k in
+      subst (LinksAt root pool up spot gfn) (omega arith) (links_up n L.table gfn (level + 1) (omega (arith, most)) L.chain L.here)
 
-  -- Where a table over the guest frame has an entry that is no link, none over it stands below.
-  none_lower : (k l gfn level lower : ℕ) → stands up spot k ≡ Some (over_frame level gfn) → stands up spot l ≡ Some (over_frame lower gfn) → lower < level
-      → IsEnd level (pool (pool_index k (entry_index gfn level))) → ⊥
-  none_lower k l gfn level lower at_k at_l lt ends = ends L.page (omega (arith, lt, least)) (ap (λ m. pool (pool_index m (entry_index gfn level))) one ∙ L.link)
+  -- Where a linked table over the guest frame has an entry that is no link, no linked one over it stands below.
+  none_lower : (k l gfn level lower : ℕ) → HangsBelow up root k → HangsBelow up root l → stands up spot k ≡ Some (over_frame level gfn)
+      → stands up spot l ≡ Some (over_frame lower gfn) → lower < level → IsEnd level (pool (pool_index k (entry_index gfn level))) → ⊥
+  none_lower k l gfn level lower R Q at_k at_l lt ends = ends L.page (omega (arith, lt, least)) (ap (λ m. pool (pool_index m (entry_index gfn level))) one ∙ L.link)
     where
       least : 1 ≤ lower
       least = (T.there l (over_frame lower gfn) at_l).1
@@ -98,24 +102,24 @@ module _ {pages root : ℕ} {role pool : ℕ → ℕ} {up : ℕ → Use} {spot :
       most : level ≤ 4
       most = (T.there k (over_frame level gfn) at_k).2
 
-      L : LinksAt pool up spot gfn level
-      L = subst (LinksAt pool up spot gfn) (omega (arith, lt)) (links_up (level - lower - 1) l gfn lower (omega (arith, lt, most)) at_l)
+      L : LinksAt root pool up spot gfn level
+      L = subst (LinksAt root pool up spot gfn) (omega (arith, lt)) (links_up (level - lower - 1) l gfn lower (omega (arith, lt, most)) Q at_l)
 
       one : k ≡ L.table
-      one = one_place T k L.table (over_frame level gfn) (all_reached T k _ at_k) (all_reached T L.table _ L.here) at_k L.here
+      one = one_place T k L.table (over_frame level gfn) R L.chain at_k L.here
 
-  -- Over a guest frame one entry at most is no link.
-  pub one_end : (k l gfn level other : ℕ) → stands up spot k ≡ Some (over_frame level gfn) → stands up spot l ≡ Some (over_frame other gfn)
-      → IsEnd level (pool (pool_index k (entry_index gfn level))) → IsEnd other (pool (pool_index l (entry_index gfn other))) → (level ≡ other) × (k ≡ l)
-  one_end k l gfn level other at_k at_l ends too = by (cases_lt level other) (cases_lt other level)
+  -- Over a guest frame one entry at most of linked tables is no link.
+  pub one_end : (k l gfn level other : ℕ) → HangsBelow up root k → HangsBelow up root l → stands up spot k ≡ Some (over_frame level gfn)
+      → stands up spot l ≡ Some (over_frame other gfn) → IsEnd level (pool (pool_index k (entry_index gfn level))) → IsEnd other (pool (pool_index l (entry_index gfn other))) → (level ≡ other) × (k ≡ l)
+  one_end k l gfn level other R Q at_k at_l ends too = by (cases_lt level other) (cases_lt other level)
     where
       by : (level < other) ⊎ (other ≤ level) → (other < level) ⊎ (level ≤ other) → (level ≡ other) × (k ≡ l)
-      by (inl lt) _ = absurd (none_lower l k gfn other level at_l at_k lt too)
-      by _ (inl lt) = absurd (none_lower k l gfn level other at_k at_l lt ends)
+      by (inl lt) _ = absurd (none_lower l k gfn other level Q R at_l at_k lt too)
+      by _ (inl lt) = absurd (none_lower k l gfn level other R Q at_k at_l lt ends)
       by (inr le) (inr ge) =
           let same : other ≡ level = omega (arith, le, ge) in
           let here : stands up spot l ≡ Some (over_frame level gfn) = at_l ∙ ap (λ n. Some (over_frame n gfn)) same in
-          (sym same, one_place T k l (over_frame level gfn) (all_reached T k _ at_k) (all_reached T l _ here) at_k here)
+          (sym same, one_place T k l (over_frame level gfn) R Q at_k here)
 
   -- An entry of a table that is reached, over a guest frame, is the table's own entry of this frame.
   pub entry_over : (l j gfn : ℕ) → HangsBelow up root l → IsEntryOver (spot l) j gfn
@@ -128,11 +132,11 @@ module _ {pages root : ℕ} {role pool : ℕ → ℕ} {up : ℕ → Use} {spot :
         omega (arith, low, over),
       )
 
-  -- Where the entry of this table over a guest frame leads nowhere, none over the frame is a leaf.
-  pub none_below : (k gfn level : ℕ) → stands up spot k ≡ Some (over_frame level gfn)
+  -- Where the entry of this linked table over a guest frame leads nowhere, none over the frame is a leaf.
+  pub none_below : (k gfn level : ℕ) → HangsBelow up root k → stands up spot k ≡ Some (over_frame level gfn)
       → leads_on (kind_of level (pool (pool_index k (entry_index gfn level)))) ≡ false
       → AllOver up spot pool root (λ below other w. other ≡ gfn → kind_of below w ≡ entry_kind.Leaf → ⊥)
-  none_below k gfn level at_k nowhere l j other R O same leaf = absurd (cc (leads, nowhere))
+  none_below k gfn level Q at_k nowhere l j other R O same leaf = absurd (cc (leads, nowhere))
     where
       here : (stands up spot l ≡ Some (over_frame (spot l).level gfn)) × (j ≡ entry_index gfn (spot l).level)
       here = entry_over l j gfn R (subst (IsEntryOver (spot l) j) same O)
@@ -141,7 +145,7 @@ module _ {pages root : ℕ} {role pool : ℕ → ℕ} {up : ℕ → Use} {spot :
       met = ap (λ i. kind_of (spot l).level (pool (pool_index l i))) (sym here.1) ∙ leaf
 
       one : (level ≡ (spot l).level) × (k ≡ l)
-      one = one_end k l gfn level (spot l).level at_k here.0 (nowhere_ends level _ nowhere) (leaf_ends (spot l).level _ met)
+      one = one_end k l gfn level (spot l).level Q R at_k here.0 (nowhere_ends level _ nowhere) (leaf_ends (spot l).level _ met)
 
       leads : leads_on (kind_of level (pool (pool_index k (entry_index gfn level)))) ≡ true
       leads =

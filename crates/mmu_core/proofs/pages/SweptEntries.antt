@@ -14,7 +14,7 @@ use Rattle.part_steps.specs.SweepTopics.{entry_end, entry_start, has_entry, is_d
 use Rattle.part_steps.specs.WalkTopics.{gone_down}
 use Rattle.mmu_core.specs.invariant.AllOver.{AllOver}
 use Rattle.mmu_core.specs.invariant.InvalidatedPart.{IsNoLeafBelow}
-use Rattle.mmu_core.specs.invariant.TreePart.{Position, TreePart, Use, at, stands}
+use Rattle.mmu_core.specs.invariant.TreePart.{HangsBelow, Position, TreePart, Use, at, stands}
 use Rattle.mmu_core.proofs.pages.NoneBelow.{done_leads, leads_on, none_below}
 
 -- A guest frame of a sweep that lies below lies below the end of an entry at which there is nothing to do, or below the entry.
@@ -72,7 +72,8 @@ in_entry gfn entry span some low high =
     omega (arith, from, to)
 
 module _ {pages root : ℕ} {role pool : ℕ → ℕ} {up : ℕ → Use} {spot : ℕ → Position} (T : TreePart pages root role pool up spot)
-    (own_ : Invalidated) (walk : TableWalk) (at_walk : stands up spot (table_page walk) ≡ Some (at walk.level walk.prefix)) where
+    (own_ : Invalidated) (walk : TableWalk) (linked : HangsBelow up root (table_page walk))
+    (at_walk : stands up spot (table_page walk) ≡ Some (at walk.level walk.prefix)) where
   abbrev pub k : ℕ
   k = table_page walk
 
@@ -90,7 +91,7 @@ module _ {pages root : ℕ} {role pool : ℕ → ℕ} {up : ℕ → Use} {spot :
           in_entry gfn (walk.prefix * 512 + index) (level_span walk.level) (span_positive walk.level there.1 there.2) (omega (arith, start, behind)) below in
           let prefix : walk.prefix ≡ gfn / level_span walk.level / 512 = omega (arith, over, low) in
           let same : index ≡ entry_index gfn walk.level = omega (arith, over, low) in
-          none_below T k gfn walk.level (at_walk ∙ ap (λ r. Some (at walk.level r)) prefix)
+          none_below T k gfn walk.level linked (at_walk ∙ ap (λ r. Some (at walk.level r)) prefix)
           (ap (λ i. leads_on (kind_of walk.level (pool (pool_index k i)))) (sym same) ∙ nowhere) l j gfn R O refl leaf
 
   -- the walk after a load of the entry of this guest frame

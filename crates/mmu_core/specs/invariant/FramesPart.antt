@@ -65,6 +65,13 @@ abbrev pub number_owned : Option OwnedFrame → Option ℕ
 number_owned None = None
 number_owned (Some o) = Some o.frame
 
+-- An actor with these topics has looked at the frame in its section; and it owns the frame.
+abbrev pub HasLookedAt : Topics → ℕ → Type 0
+HasLookedAt t frame = frame_looked t.host t.stay ≡ Some frame
+
+abbrev pub HasFrame : Topics → ℕ → Type 0
+HasFrame t frame = number_owned t.frames.owned ≡ Some frame
+
 -- One of so many host pages names the frame.
 abbrev pub IsNamed : ℕ → (ℕ → ℕ) → ℕ → Type 0
 IsNamed pages host frame = (page : ℕ) × (page < pages) × (host_frame (host page) ≡ frame)
@@ -72,7 +79,7 @@ IsNamed pages host frame = (page : ℕ) × (page < pages) × (host_frame (host p
 -- The frame at which an actor has looked at a host page, in the section that it is in, is a page's, or owned by another actor, which hasn't watched it since.
 abbrev pub LookedFramesPart : Sizes → ℕ → (ℕ → ℕ) → (ℕ → Topics) → Type 0
 LookedFramesPart z n host topics =
-    HeldStill (λ t. frame_looked t.host t.stay) (λ t. number_owned t.frames.owned) n (IsNamed z.pages host) topics
+    HeldStill HasLookedAt HasFrame n (IsNamed z.pages host) topics
 
 -- Each word of its frame that an actor has filled is the one of the page that it looked at, and so is the one that it has copied for the next, if the frame
 -- has one.

@@ -1,12 +1,11 @@
 -- What an actor holds of tables and slot sets; and what a section may hold still of what another actor has taken out of use.
 use Rattle.std.specs.Prelude.{◌≡◌, ◌≢◌, ◌<◌, ◌≤◌, ◌⊎◌, ◌-◌, ◌/◌, ◌^◌, ℕ, false, Option, Some, None}
 use Rattle.core_views.specs.declared.sizes.Sizes.{Sizes}
-use Rattle.core_views.specs.declared.topics.Stay.TheVariants.{Section}
 use Rattle.core_views.specs.declared.topics.TableWalk.{TableWalk}
 use Rattle.core_views.specs.declared.topics.Topics.{Topics}
 use Rattle.part_steps.specs.PartTasks.{table_page}
 use Rattle.mmu_core.specs.invariant.SlotSetPart.{AreSlots}
-use Rattle.part_steps.specs.StayTopics.{is_section, may_search, may_walk}
+use Rattle.part_steps.specs.StayTopics.{is_outside, is_section, may_search, may_walk}
 use Rattle.mmu_core.specs.invariant.TreePart.{Position, at}
 
 -- The table that a walk has come to is one, at the walk's level and span; and neither a table nor a slot set is held outside of the
@@ -32,22 +31,29 @@ span_at level walk = walk.prefix / 512 ^ (level - walk.level)
 abbrev pub PathPart : (ℕ → Option Position) → TableWalk → Type 0
 PathPart stands walk = (level : ℕ) → 1 ≤ walk.level → walk.level < level → level ≤ 4 → stands (table_at level walk) ≡ Some (at level (span_at level walk))
 
--- Actor i is in a section. Another one has taken k out of use (`retires` says what each actor has), and hasn't watched this one since.
-pub record HoldsOld (retires : Topics → Option ℕ) (n : ℕ) (topics : ℕ → Topics) (i k : ℕ) : Type 0 where
-  pub section : (topics i).stay ≡ Section
+-- Actor i is in the guest or in a section. Another one has taken k out of use (`Retires` says what an actor has), and hasn't watched this one since.
+pub record HoldsOld (Retires : Topics → ℕ → Type 0) (n : ℕ) (topics : ℕ → Topics) (i k : ℕ) : Type 0 where
+  pub inside : is_outside (topics i).stay ≡ false
   pub by : ℕ
   pub there : by < n
   pub other : by ≢ i
-  pub leaves : retires (topics by) ≡ Some k
+  pub leaves : Retires (topics by) k
   pub unwatched : (topics by).watched ≤ i
 
--- What an actor holds (`holds` says what) is in use; or the actor is in a section, and holds still what another one has taken out of use.
-abbrev pub HeldStill : (Topics → Option ℕ) → (Topics → Option ℕ) → ℕ → (ℕ → Type 0) → (ℕ → Topics) → Type 0
-HeldStill holds retires n IsInUse topics = (i k : ℕ) → i < n → holds (topics i) ≡ Some k → IsInUse k ⊎ HoldsOld retires n topics i k
+-- What an actor holds (`Holds` says what) is in use; or the actor is in the guest or in a section, and holds still what another one has taken out of use.
+abbrev pub HeldStill : (Topics → ℕ → Type 0) → (Topics → ℕ → Type 0) → ℕ → (ℕ → Type 0) → (ℕ → Topics) → Type 0
+HeldStill Holds Retires n IsInUse topics = (i k : ℕ) → i < n → Holds (topics i) k → IsInUse k ⊎ HoldsOld Retires n topics i k
+
+-- An actor with these topics searches the slot set in this page; and it has retired the one in this page.
+abbrev pub HoldsSlots : Topics → ℕ → Type 0
+HoldsSlots t k = t.search.set ≡ Some k
+
+abbrev pub HasRetired : Topics → ℕ → Type 0
+HasRetired t k = t.retired ≡ Some k
 
 -- The slot set that an actor holds is the published one, or an older one that an actor has retired which hasn't watched it since.
 abbrev pub SetsPart : ℕ → ℕ → (ℕ → Topics) → Type 0
-SetsPart n slots topics = HeldStill (λ t. t.search.set) (λ t. t.retired) n (λ k. k ≡ slots) topics
+SetsPart n slots topics = HeldStill HoldsSlots HasRetired n (λ k. k ≡ slots) topics
 
 -- A page that is retired has the slots of a slot set still: nobody stores in it.
 abbrev pub OldSetsPart : Sizes → ℕ → (ℕ → ℕ) → (ℕ → Option ℕ) → Type 0

@@ -17,7 +17,7 @@ use Rattle.mmu_core.specs.invariant.Laws.{IsSound}
 use Rattle.mmu_core.specs.machine.Machine.{World}
 use Rattle.part_steps.specs.PartTasks.{entry_index, table_page}
 use Rattle.part_steps.specs.WalkTopics.{gone_down, linked_page}
-use Rattle.mmu_core.specs.invariant.TreePart.{EntryPart, Position, HangsBelow, TreePart, Use, at, stands}
+use Rattle.mmu_core.specs.invariant.TreePart.{Below, EntryPart, HangsBelow, LinksTo, Position, TreePart, Use, at, stands, through}
 use Rattle.mmu_core.specs.machine.View.{word_in}
 use Rattle.mmu_core.proofs.pages.Standing.{one_position}
 use Rattle.mmu_core.proofs.pages.TreePlaces.{IsLinked, all_reached, link_stands, linked, root_stands}
@@ -46,6 +46,22 @@ leads_at pool (suc level) page gfn e from is leaf = inl (record { here = refl; i
 
 module _ {pages root : ℕ} {role pool : ℕ → ℕ} {up : ℕ → Use} {spot : ℕ → Position} (T : TreePart pages root role pool up spot)
     (few : pages ≤ 2 ^ 32) (gfn : ℕ) where
+  -- An entry behind which a page is linked is the link to it.
+  link_of : {X : Type 0} (p : Position) (page j word below : ℕ) → stands up spot page ≡ Some p → linked_page (kind_of p.level word) ≡ Some below
+      → EntryPart up page p j word → ((L : LinksTo up page p j word) → L.page ≡ below → X) → X
+  link_of p page j word below at_page link (inl e) so =
+      let none : linked_page (kind_of p.level word) ≡ None =
+      ap (λ n. linked_page (kind_of p.level n)) e ∙ ap (λ (k : SpteKind). linked_page k) (kind_of_absent p.level) in
+      absurd (cc (none, link))
+  link_of p page j word below at_page link (inr (inl L)) so =
+      let low = (T.there L.page _ (link_stands T page p j word at_page L)).0 in
+      let links : linked_page (kind_of p.level word) ≡ Some L.page =
+      ap (λ n. linked_page (kind_of p.level n)) L.is
+      ∙ ap (λ (k : SpteKind). linked_page k) (kind_of_table p.level L.page L.upper (omega (arith, low, few))) in
+      so L (same_page (sym links ∙ link))
+  link_of p page j word below at_page link (inr (inr leaf)) so =
+      let none : linked_page (kind_of p.level word) ≡ None = ap (λ (k : SpteKind). linked_page k) leaf in absurd (cc (none, link))
+
   -- Behind a link of a table stands a table, one level below, at the span of this entry.
   pub below_stands : (level prefix page below : ℕ) → stands up spot page ≡ Some (at level prefix) → LinksOn pool level page gfn below
       → stands up spot below ≡ Some (at (level - 1) (prefix * 512 + entry_index gfn level))
@@ -58,18 +74,8 @@ module _ {pages root : ℕ} {role pool : ℕ → ℕ} {up : ℕ → Use} {spot :
       word = pool (pool_index page j)
 
       by : EntryPart up page (at level prefix) j word → stands up spot below ≡ Some (at (level - 1) (prefix * 512 + j))
-      by (inl e) =
-          let none : linked_page (kind_of level word) ≡ None =
-          ap (λ n. linked_page (kind_of level n)) e ∙ ap (λ (k : SpteKind). linked_page k) (kind_of_absent level) in
-          absurd (cc (none, link))
-      by (inr (inl L)) =
-          let stands_there = link_stands T page (at level prefix) j word at_page L in
-          let low = (T.there L.page _ stands_there).0 in
-          let links : linked_page (kind_of level word) ≡ Some L.page =
-          ap (λ n. linked_page (kind_of level n)) L.is
-          ∙ ap (λ (k : SpteKind). linked_page k) (kind_of_table level L.page L.upper (omega (arith, low, few))) in
-          ap (stands up spot) (same_page (sym link ∙ links)) ∙ stands_there
-      by (inr (inr leaf)) = let none : linked_page (kind_of level word) ≡ None = ap (λ (k : SpteKind). linked_page k) leaf in absurd (cc (none, link))
+      by E = link_of (at level prefix) page j word below at_page link E (λ L same. ap (stands up spot) (sym same)
+          ∙ link_stands T page (at level prefix) j word at_page L)
 
   -- So behind a link of a table over the guest frame stands a table over it.
   pub one_below : (level page below : ℕ) → stands up spot page ≡ Some (over_frame level gfn) → LinksOn pool level page gfn below
@@ -87,6 +93,21 @@ module _ {pages root : ℕ} {role pool : ℕ → ℕ} {up : ℕ → Use} {spot :
           let next : gfn / level_span (level - 1) / 512 ≡ gfn / level_span level =
           span_up gfn (level - 1) least ∙ ap (λ n. gfn / level_span n) (omega (arith, least)) in
           omega (arith, next)
+
+  -- And it is linked, where the table is.
+  pub link_below : (level prefix page below : ℕ) → HangsBelow up root page → stands up spot page ≡ Some (at level prefix) → LinksOn pool level page gfn below
+      → HangsBelow up root below
+  link_below level prefix page below R at_page link = by (T.entries page (at level prefix) at_page j (omega arith))
+    where
+      j : ℕ
+      j = entry_index gfn level
+
+      word : ℕ
+      word = pool (pool_index page j)
+
+      by : EntryPart up page (at level prefix) j word → HangsBelow up root below
+      by E = link_of (at level prefix) page j word below at_page link E (λ L same. subst (HangsBelow up root) same
+          (suc R.0, subst (λ u. through u (Below up root R.0)) (sym L.below) R.1))
 
 -- ---- from the root
 
@@ -152,12 +173,19 @@ module _ {pages root : ℕ} {role pool : ℕ → ℕ} {up : ℕ → Use} {spot :
   leads_same zero page R at_page = absurd (let least = (T.there page _ at_page).1 in omega (arith, least))
   leads_same (suc level) page R at_page = leads_by (3 - level) level page (let most = (T.there page _ at_page).2 in omega (arith, most)) R at_page
 
+pub leads_linked : (z : Sizes) (w : World Held) (gfn page level low entry : ℕ) (sound : IsSound z w)
+    → HangsBelow sound.topics.up (word_in z w area.Root 0) page
+    → stands sound.topics.up sound.topics.spot page ≡ Some (at level (gfn / level_span level / 512))
+    → LeadSame (word_in z w area.Pool) (word_in z w area.Root 0) level page gfn low entry
+leads_linked z w gfn page level low entry sound R at_page =
+    let I = sound.topics in
+    leads_same I.tree (let most = sound.holds.sizes.pool.1 in omega (arith, most)) gfn low entry level page R at_page
+
 pub leads_down : (z : Sizes) (w : World Held) (gfn page level low entry : ℕ) (sound : IsSound z w)
     → stands sound.topics.up sound.topics.spot page ≡ Some (at level (gfn / level_span level / 512))
     → LeadSame (word_in z w area.Pool) (word_in z w area.Root 0) level page gfn low entry
 leads_down z w gfn page level low entry sound at_page =
-    let I = sound.topics in
-    leads_same I.tree (let most = sound.holds.sizes.pool.1 in omega (arith, most)) gfn low entry level page (all_reached I.tree page _ at_page) at_page
+    leads_linked z w gfn page level low entry sound (all_reached sound.topics.tree page _ at_page) at_page
 
 -- ---- the next entry on the way
 

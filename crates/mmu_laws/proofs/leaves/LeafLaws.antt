@@ -42,7 +42,7 @@ use Rattle.mmu_core.proofs.pages.AllOver.{reaches_on}
 use Rattle.mmu_core.proofs.pages.LeavesOver.{leaf_for}
 use Rattle.mmu_core.proofs.pages.TreePlaces.{root_stands}
 use Rattle.mmu_core.proofs.pages.NoneBelow.{over_frame}
-use Rattle.mmu_laws.proofs.leaves.LeadsDown.{leads_at, leads_down, one_below}
+use Rattle.mmu_laws.proofs.leaves.LeadsDown.{leads_at, leads_linked, link_below, one_below}
 use Rattle.mmu_core.proofs.words.HostFrames.{first_small, leaf_maps}
 use Rattle.mmu_core.proofs.words.SlotLists.{only_one_holds}
 use Rattle.mmu_core.proofs.forms.access.CachedKept.{used_covers}
@@ -51,6 +51,7 @@ use Rattle.mmu_core.proofs.machine.Stepping.{line_allowed}
 use Rattle.mmu_core.proofs.held.UsableKept.{vcpu_below, used_agrees}
 use Rattle.core_views.specs.Traces.{IsCommandFor}
 use Rattle.mmu_core.proofs.forms.access.FaultSame.{both}
+use Rattle.mmu_core.proofs.pages.Linked.{walk_linked}
 
 -- A write gets the page of its slot, where the slot isn't read-only.
 gets_page : (write read_only : Bool) (page : ℕ) → write ≡ true → is_some (if write && read_only then None else Some page) ≡ not read_only
@@ -141,30 +142,32 @@ leaves_say z w sound k R table entry gfn Q O leaf =
 module _ {pages root : ℕ} {role pool : ℕ → ℕ} {up : ℕ → Use} {spot : ℕ → Position} (T : TreePart pages root role pool up spot)
     (few : pages ≤ 2 ^ 32) (gfn low entry : ℕ) where
   -- The entry to which they lead from a table over the guest frame is one of a table over it.
-  end_table : (level page : ℕ) → stands up spot page ≡ Some (over_frame level gfn) → LeadsTo pool level page gfn low entry
-      → (k : ℕ) × (stands up spot k ≡ Some (over_frame low gfn)) × (pool (pool_index k (entry_index gfn low)) ≡ entry)
-  end_table zero page at_page leads = absurd leads
-  end_table (suc level) page at_page (inl E) = (
+  end_table : (level page : ℕ) → HangsBelow up root page → stands up spot page ≡ Some (over_frame level gfn) → LeadsTo pool level page gfn low entry
+      → (k : ℕ) × (stands up spot k ≡ Some (over_frame low gfn)) × (pool (pool_index k (entry_index gfn low)) ≡ entry) × HangsBelow up root k
+  end_table zero page R at_page leads = absurd leads
+  end_table (suc level) page R at_page (inl E) = (
     page,
     at_page ∙ ap (λ n. Some (over_frame n gfn)) (sym E.here),
     ap (λ n. pool (pool_index page (entry_index gfn n))) E.here ∙ E.is,
+    R,
   )
-  end_table (suc level) page at_page (inr down) =
-      end_table level down.0 (one_below T few gfn (suc level) page down.0 at_page down.1 ∙ ap (λ n. Some (over_frame n gfn)) (omega arith)) down.2
+  end_table (suc level) page R at_page (inr down) =
+      end_table level down.0 (link_below T few gfn (suc level) _ page down.0 R at_page down.1) (one_below T few gfn (suc level) page down.0 at_page down.1 ∙ ap (λ n. Some (over_frame n gfn)) (omega arith)) down.2
 
   pub from_root : gfn < 2 ^ 36 → LeadsTo pool 4 root gfn low entry
-      → (k : ℕ) × (stands up spot k ≡ Some (over_frame low gfn)) × (pool (pool_index k (entry_index gfn low)) ≡ entry)
+      → (k : ℕ) × (stands up spot k ≡ Some (over_frame low gfn)) × (pool (pool_index k (entry_index gfn low)) ≡ entry) × HangsBelow up root k
   from_root small leads =
       let first : 0 ≡ gfn / level_span 4 / 512 = rw span_4 (omega (arith, small)) in
-      end_table 4 root (root_stands T ∙ ap (λ n. Some (at 4 n)) first) leads
+      end_table 4 root (0, refl) (root_stands T ∙ ap (λ n. Some (at 4 n)) first) leads
 
 -- A leaf of such a table is the guest frame's.
 standing_leaf : (z : Sizes) (w : World Held) (gfn low entry k : ℕ) (sound : IsSound z w)
-    → stands sound.topics.up sound.topics.spot k ≡ Some (over_frame low gfn) → word_in z w area.Pool (pool_index k (entry_index gfn low)) ≡ entry
+    → HangsBelow sound.topics.up (word_in z w area.Root 0) k → stands sound.topics.up sound.topics.spot k ≡ Some (over_frame low gfn)
+    → word_in z w area.Pool (pool_index k (entry_index gfn low)) ≡ entry
     → kind_of low entry ≡ entry_kind.Leaf → IsLeafFor (word_in z w area.Pool) (word_in z w area.Host) (word_in z w area.Slots 0) low gfn entry
-standing_leaf z w gfn low entry k sound at_k is leaf =
+standing_leaf z w gfn low entry k sound R at_k is leaf =
     subst (IsLeafFor (word_in z w area.Pool) (word_in z w area.Host) (word_in z w area.Slots 0) low gfn) is
-    (leaf_for z (view z w) sound.topics k low (gfn / level_span low / 512) (entry_index gfn low) gfn at_k (omega arith) (omega arith)
+    (leaf_for z (view z w) sound.topics k low (gfn / level_span low / 512) (entry_index gfn low) gfn R at_k (omega arith) (omega arith)
     (ap (kind_of low) is ∙ leaf))
 
 pub leaves_agree : (z : Sizes) (w : World Held) (gfn low entry : ℕ) → IsSound z w → gfn < 2 ^ 36
@@ -173,7 +176,7 @@ pub leaves_agree : (z : Sizes) (w : World Held) (gfn low entry : ℕ) → IsSoun
 leaves_agree z w gfn low entry sound small leads leaf =
     let end_ = from_root sound.topics.tree (let most = sound.holds.sizes.pool.1 in omega (arith, most)) gfn low entry small leads in
     leaf_agrees z (word_in z w area.Slots 0) (word_in z w area.Role) (word_in z w area.Pool) (word_in z w area.Host) low gfn entry
-    sound.holds.set_part (standing_leaf z w gfn low entry end_.0 sound end_.1 end_.2 leaf)
+    sound.holds.set_part (standing_leaf z w gfn low entry end_.0 sound end_.3 end_.1 end_.2 leaf)
 
 -- It is the leaf of each guest frame of its span: the table that has it stands over all of them, and has them in one entry.
 pub leaves_cover_spans : (z : Sizes) (w : World Held) (gfn low entry : ℕ) → IsSound z w → gfn < 2 ^ 36
@@ -184,7 +187,7 @@ leaves_cover_spans z w gfn low entry sound small leads leaf =
     let from : 1 ≤ low = (sound.topics.tree.there end_.0 _ end_.1).1 in record {
       from = from;
       to = leaf_level low entry leaf;
-      leads = λ other in_run. (leads_down z w other end_.0 low low entry sound (end_.1 ∙ ap (λ n. Some (at low (n / 512))) (sym in_run))).above
+      leads = λ other in_run. (leads_linked z w other end_.0 low low entry sound end_.3 (end_.1 ∙ ap (λ n. Some (at low (n / 512))) (sym in_run))).above
           (leads_at (word_in z w area.Pool) low end_.0 other entry from
           (ap (λ n. word_in z w area.Pool (pool_index end_.0 (n % 512))) in_run ∙ end_.2) leaf);
     }
@@ -198,7 +201,8 @@ held_leaves_agree z w actor gfn low entry sound lt over leads leaf =
     let walk : TableWalk = (hand_in mmu w actor).topics.walk in
     let at_page : stands sound.topics.up sound.topics.spot (table_page walk) ≡ Some (at walk.level (gfn / level_span walk.level / 512)) =
     (sound.topics.held actor lt).table over.there ∙ ap (λ n. Some (at walk.level n)) (sym over.span) in
-    leaves_agree z w gfn low entry sound over.small ((leads_down z w gfn (table_page walk) walk.level low entry sound at_page).above leads) leaf
+    leaves_agree z w gfn low entry sound over.small ((leads_linked z w gfn (table_page walk) walk.level low entry sound (walk_linked z (view z w) sound.topics actor lt over.there) at_page).above
+    leads) leaf
 
 -- ---- what is cached and used
 

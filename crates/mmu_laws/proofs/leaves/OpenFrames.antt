@@ -42,7 +42,7 @@ open_frames_are_zapped z w actor gfn low entry sound lt emptied asked is_in lead
     let end_ = from_root I.tree (let most = sound.holds.sizes.pool.1 in omega (arith, most)) gfn low entry small leads in
     let here : I.spot end_.0 ≡ over_frame low gfn = (spot_of I.up I.spot end_.0 _ end_.1).1 in
     subst (λ (p : Position). IsNoLeafIn (own_of w actor) p.level gfn (word_in z w area.Pool (pool_index end_.0 (entry_index gfn low)))) here
-    (I.zapped actor lt emptied asked end_.0 (entry_index gfn low) gfn (all_reached I.tree end_.0 _ end_.1)
+    (I.zapped actor lt emptied asked end_.0 (entry_index gfn low) gfn end_.3
     (omega arith, subst (λ (p : Position). gfn / level_span p.level ≡ p.prefix * 512 + entry_index gfn low) (sym here) (omega arith)))
     is_in (ap (kind_of low) end_.2 ∙ leaf)
 

@@ -30,7 +30,7 @@ use Rattle.mmu_core.specs.invariant.InvalidatedPart.{IsIn, SlotGives, keeps_empt
 use Rattle.mmu_core.specs.invariant.Invariant.{Invariant}
 use Rattle.mmu_core.specs.invariant.Laws.{IsSound}
 use Rattle.mmu_core.specs.invariant.TopicsInvariant.{TopicsInvariant}
-use Rattle.mmu_core.specs.invariant.TreePart.{Position, at, stands}
+use Rattle.mmu_core.specs.invariant.TreePart.{HangsBelow, Position, at, stands}
 use Rattle.mmu_core.specs.machine.Enabled.{mmu}
 use Rattle.mmu_core.specs.machine.Machine.{World, hand_in}
 use Rattle.mmu_core.specs.machine.View.{View, part_stepped, upd, view, word_in}
@@ -49,6 +49,7 @@ use Rattle.mmu_core.proofs.slots.LiveStays.{live_in_stays, part_live_stays}
 use Rattle.mmu_core.proofs.words.PartTopics.{behind_step, part_behind, stepped_hand}
 use Rattle.mmu_laws.proofs.leaves.OwnLeaves.{StandsThere, gone_found}
 use Rattle.mmu_laws.proofs.leaves.TopicRuns.{SaidOf}
+use Rattle.mmu_core.proofs.pages.Linked.{walk_linked}
 
 -- Who holds the lock so, is there and walks so shares the lock outside, and has loaded a leaf which is over the guest frame.
 pub record SharesLeaf (gfn : ℕ) (hold : Hold) (stay : Stay) (walk : TableWalk) : Type 0 where
@@ -85,11 +86,12 @@ SharedOwn z a pool host set topics =
 
 zapped_here : (z : Sizes) (u : World Held) (G : IsSound z u) (j k level prefix entry gfn : ℕ) → j < actors_of z
     → keeps_empty (hand_in mmu u j).topics ≡ true → 1 ≤ (hand_in mmu u j).topics.flush.asked
-    → stands G.topics.up G.topics.spot k ≡ Some (at level prefix) → entry < 512 → gfn / level_span level ≡ prefix * 512 + entry
+    → HangsBelow G.topics.up (word_in z u area.Root 0) k → stands G.topics.up G.topics.spot k ≡ Some (at level prefix) → entry < 512
+    → gfn / level_span level ≡ prefix * 512 + entry
     → kind_of level (word_in z u area.Pool (pool_index k entry)) ≡ Leaf → IsIn (hand_in mmu u j).topics.invalidations.own gfn → ⊥
-zapped_here z u G j k level prefix entry gfn lt keeps asked at_k low over leaf is_in =
+zapped_here z u G j k level prefix entry gfn lt keeps asked R at_k low over leaf is_in =
     let here : G.topics.spot k ≡ at level prefix = (spot_of G.topics.up G.topics.spot k (at level prefix) at_k).1 in
-    G.topics.zapped j lt keeps asked k entry gfn (all_reached G.topics.tree k (at level prefix) at_k)
+    G.topics.zapped j lt keeps asked k entry gfn R
     (low, subst (λ (p : Position). gfn / level_span p.level ≡ p.prefix * 512 + entry) (sym here) over) is_in
     (subst (λ (p : Position). kind_of p.level (word_in z u area.Pool (pool_index k entry)) ≡ Leaf) (sym here) leaf)
 
@@ -98,11 +100,12 @@ shared_own z u a G lt gfn H found =
     let walk : TableWalk = (hand_in mmu u a).topics.walk in
     let leaf = ap (kind_of walk.level) found ∙ H.leaf in
     let stands_ = (G.topics.held a lt).table H.from in
+    let linked = walk_linked z (view z u) G.topics a lt H.from in
     record {
       given = subst (IsLeafFor (word_in z u area.Pool) (word_in z u area.Host) (word_in z u area.Slots 0) walk.level gfn) found
-          (leaf_for z (view z u) G.topics (table_page walk) walk.level walk.prefix walk.index gfn stands_ H.loaded H.over leaf);
+          (leaf_for z (view z u) G.topics (table_page walk) walk.level walk.prefix walk.index gfn linked stands_ H.loaded H.over leaf);
       unswept = λ j low keeps asked is_in.
-          zapped_here z u G j (table_page walk) walk.level walk.prefix walk.index gfn low keeps asked stands_ H.loaded H.over leaf is_in;
+          zapped_here z u G j (table_page walk) walk.level walk.prefix walk.index gfn low keeps asked linked stands_ H.loaded H.over leaf is_in;
     }
 
 -- ---- one step of a part

@@ -51,6 +51,7 @@ use Rattle.mmu_core.proofs.pages.LeavesOver.{leaf_for}
 use Rattle.mmu_core.proofs.pages.Standing.{entry_now, position_below}
 use Rattle.mmu_core.proofs.machine.ColumnsTell.{tells}
 use Rattle.part_steps.specs.PartTasks.{entry_index, table_page}
+use Rattle.mmu_core.proofs.pages.Linked.{walk_linked}
 
 -- What is known of each table: it is the root, or for a span that is wanted.
 abbrev pub AreWanted : Header → List Line → ℕ → (ℕ → Option Position) → Type 0
@@ -101,7 +102,8 @@ linked_for z v a (part.Link gfn) p S I is = subst (IsForSlot (v.words area.Pool)
         let at_walk = (I.held a S.there).table S.needs.0.saw.over.there in
         let found : kind_of t.walk.level (entry_now gfn t v) ≡ entry_kind.Leaf =
         ap (kind_of t.walk.level) (tells (entry_now gfn t v) t.walk.entry is.0) ∙ leaf in
-        let L = leaf_for z v I (table_page t.walk) t.walk.level t.walk.prefix (entry_index gfn t.walk.level) gfn at_walk (omega arith)
+        let L = leaf_for z v I (table_page t.walk) t.walk.level t.walk.prefix (entry_index gfn t.walk.level) gfn
+        (walk_linked z v I a S.there S.needs.0.saw.over.there) at_walk (omega arith)
         (let over = S.needs.0.saw.over.span in omega (arith, over)) found in
         record { gfn = gfn; id = L.id; slot = L.slot; live = L.live; holds = L.holds; span = span }
 linked_for z v a _ p S I is = absurd is

@@ -51,8 +51,9 @@ use Rattle.mmu_laws.specs.steps.InvalidationLaws.{HasNoneLeft, ReleasesLeaveNoth
 use Rattle.mmu_laws.proofs.steps.ReleaseLaws.{none_left}
 use Rattle.mmu_laws.specs.steps.TouchLaws.{touches}
 use Rattle.mmu_laws.proofs.causes.MadeSteps.{Makes, in_machine, word_on}
-use Rattle.mmu_laws.proofs.leaves.LeadsDown.{leads_at, leads_down}
+use Rattle.mmu_laws.proofs.leaves.LeadsDown.{leads_at, leads_linked}
 use Rattle.mmu_core.proofs.pages.EntryStill.{still_leaf}
+use Rattle.mmu_core.proofs.pages.Linked.{walk_linked}
 
 -- A step of this kind is one of a part.
 abbrev pub IsOfPart : StepKind → Type 0
@@ -139,7 +140,8 @@ module _ (z : Sizes) (w : World Held) (s : Step Kind) (G : IsSound z w) (may : M
 
   pub seen_leaf : (gfn : ℕ) → t.hold ≡ Exclusive → t.stay ≡ Outside → SawEntry gfn t.walk → kind_of t.walk.level t.walk.entry ≡ entry_kind.Leaf → SeenLeaf gfn
   seen_leaf gfn alone outside saw leaf = record {
-    leads = (leads_down z w gfn page t.walk.level t.walk.level (entry gfn) G stood).above
+    leads = (leads_linked z w gfn page t.walk.level t.walk.level (entry gfn) G (walk_linked z (view z w) G.topics s.actor there saw.over.there)
+        stood).above
         (leads_at pool t.walk.level page gfn (entry gfn) saw.over.there refl here);
     leaf = here;
     allows = λ writes. allowed writes still;

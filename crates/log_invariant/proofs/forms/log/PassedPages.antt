@@ -25,9 +25,10 @@ use Rattle.mmu_core.proofs.pages.SweptEntries.{both_true}
 use Rattle.mmu_core.proofs.pages.TreeKept.{tree_kept}
 use Rattle.mmu_core.specs.invariant.AllOver.{AllOver}
 use Rattle.mmu_core.specs.invariant.TopicsInvariant.{TopicsInvariant}
-use Rattle.mmu_core.specs.invariant.TreePart.{Position, TreePart, Use, at, stands}
+use Rattle.mmu_core.specs.invariant.TreePart.{HangsBelow, Position, TreePart, Use, at, stands}
 use Rattle.mmu_core.specs.machine.View.{View, answer_in, part_stepped}
 use Rattle.log_invariant.proofs.SweptWrites.{none_allows}
+use Rattle.mmu_core.proofs.pages.Linked.{top_linked, walk_linked}
 
 -- The guest frame is this one, and there is nothing to do at the entry that was loaded last, or changed: so the leaf doesn't allow writes.
 abbrev DeniesAt : ℕ → TableWalk → ℕ → ℕ → ℕ → Type 0
@@ -35,13 +36,13 @@ DeniesAt gfn after level other w = (other ≡ gfn) × ((has_entry after && is_do
 
 -- So it is where the entry of the frame in a walk's table was loaded, or changed to this one.
 entry_denies : {pages root : ℕ} {role pool : ℕ → ℕ} {up : ℕ → Use} {spot : ℕ → Position} (T : TreePart pages root role pool up spot)
-    (walk : TableWalk) (at_walk : stands up spot (table_page walk) ≡ Some (at walk.level walk.prefix)) (gfn x : ℕ) (o : Option ℕ)
+    (walk : TableWalk) → HangsBelow up root (table_page walk) → stands up spot (table_page walk) ≡ Some (at walk.level walk.prefix) → (gfn x : ℕ) (o : Option ℕ)
     → gfn / level_span walk.level / 512 ≡ walk.prefix → pool (pool_index (table_page walk) (entry_index gfn walk.level)) ≡ x
     → AllOver up spot pool root (DeniesAt gfn (gone_down o walk (entry_index gfn walk.level) x))
-entry_denies T walk at_walk gfn x (Some page) span is l j other R O passed leaf writes =
+entry_denies T walk linked at_walk gfn x (Some page) span is l j other R O passed leaf writes =
     absurd (let none = (both_true false (is_done false (gone_down (Some page) walk (entry_index gfn walk.level) x)) passed.1).0 in cc none)
-entry_denies T walk at_walk gfn x None span is l j other R O passed leaf writes =
-    none_allows T walk at_walk (entry_index gfn walk.level) (omega arith)
+entry_denies T walk linked at_walk gfn x None span is l j other R O passed leaf writes =
+    none_allows T walk linked at_walk (entry_index gfn walk.level) (omega arith)
     (subst (λ w. has_done false (can_write w) (kind_of walk.level w) ≡ true) (sym is) done) l j other R O
     (ap (λ n. n / level_span walk.level) passed.0 ∙ over) leaf writes
   where
@@ -68,13 +69,13 @@ module _ (z : Sizes) (v : View) (a : ℕ) (P : TopicsInvariant z v) (gfn : ℕ) 
   next_denies : IsPart z v a (part.Walk gfn) → Denies (part.Walk gfn)
   next_denies S =
       let over = S.needs.0 in
-      entry_denies P.tree t.walk ((P.held a S.there).table over.there) gfn
+      entry_denies P.tree t.walk (walk_linked z v P a S.there over.there) ((P.held a S.there).table over.there) gfn
       (v.words area.Pool (pool_index (table_page t.walk) (entry_index gfn t.walk.level))) (linked_page (kind_of t.walk.level _)) over.span refl
 
   anew_denies : IsPart z v a (part.WalkAnew gfn) → Denies (part.WalkAnew gfn)
   anew_denies S =
       let x : ℕ = v.words area.Pool (pool_index (table_page (at_top t.walk)) (entry_index gfn 4)) in
-      entry_denies P.tree (at_top t.walk) (top_stands P.tree t (P.held a S.there) (P.paths a S.there) S.needs.there) gfn x
+      entry_denies P.tree (at_top t.walk) (top_linked z v P a S.there S.needs.there) (top_stands P.tree t (P.held a S.there) (P.paths a S.there) S.needs.there) gfn x
       (linked_page (kind_of 4 x)) (over_top gfn t.walk S.needs.small).span refl
 
   pub walk_denies : (anew : Bool) → IsPart z v a (if anew then part.WalkAnew gfn else part.Walk gfn)
@@ -85,7 +86,7 @@ module _ (z : Sizes) (v : View) (a : ℕ) (P : TopicsInvariant z v) (gfn : ℕ) 
   -- It forbids writes in the leaf.
   pub leaf_denies : IsPart z v a (part.Protect gfn) → Denies (part.Protect gfn)
   leaf_denies S =
-      entry_denies (tree_kept z v a (part.Protect gfn) 0 S P) t.walk ((P.held a S.there).table S.needs.saw.over.there) gfn
+      entry_denies (tree_kept z v a (part.Protect gfn) 0 S P) t.walk (walk_linked z v P a S.there S.needs.saw.over.there) ((P.held a S.there).table S.needs.saw.over.there) gfn
       (without_write t.walk.entry) None S.needs.saw.over.span left
     where
       left : (part_stepped a (part.Protect gfn) 0 v).words area.Pool (pool_index (table_page t.walk) (entry_index gfn t.walk.level))

@@ -42,6 +42,7 @@ use Rattle.mmu_core.proofs.pages.LeavesOver.{leaf_for}
 use Rattle.mmu_core.specs.machine.View.{View, answer_in, hand_after}
 pub use Rattle.mmu_core.proofs.slots.LiveStay.{leaf_stays, translations_stay}
 use Rattle.mmu_core.proofs.words.HostFrames.{leaf_there}
+use Rattle.mmu_core.proofs.pages.Linked.{walk_linked}
 
 -- A step leaves what is cached, or flushes it.
 pub flushed_kept : (P : Translation → Type 0) (k : Kind) (c : Buffer Translation) (v : ℕ) → All P c.items → All P (flushed k c v).items
@@ -71,7 +72,8 @@ leaf_found z v a gfn lt I P over leaf other covered =
     let walk : TableWalk = (v.hand a).topics.walk in
     let span = over.span in
     let same : other / level_span walk.level ≡ gfn / level_span walk.level = grind (arith, nat_tests) in
-    leaf_for z v P (table_page walk) walk.level walk.prefix (entry_index gfn walk.level) other ((P.held a lt).table over.there) (omega arith)
+    leaf_for z v P (table_page walk) walk.level walk.prefix (entry_index gfn walk.level) other (walk_linked z v P a lt over.there)
+    ((P.held a lt).table over.there) (omega arith)
     (omega (arith, span, same)) leaf
 
 -- What a stay caches is a leaf.

@@ -32,12 +32,13 @@ use Rattle.part_steps.specs.PartHoldings.{IsOver}
 use Rattle.mmu_core.specs.machine.Steps.{line_at, place_at, task_at}
 use Rattle.mmu_core.specs.invariant.TreePart.{at, stands}
 use Rattle.mmu_laws.specs.turns.Removal.{StandsAt, WalksInstalled, ends_installed, has_installed, is_installed}
-use Rattle.mmu_core.specs.machine.View.{View, answer_in, hand_after, word_in, words_after}
+use Rattle.mmu_core.specs.machine.View.{View, answer_in, hand_after, view, word_in, words_after}
 use Rattle.mmu_laws.proofs.alone.GoesAlone.{topics_at}
 use Rattle.mmu_core.proofs.machine.Columns.{upd_same}
-use Rattle.mmu_laws.proofs.leaves.LeadsDown.{leads_at, leads_down}
+use Rattle.mmu_laws.proofs.leaves.LeadsDown.{leads_at, leads_linked}
 use Rattle.mmu_laws.proofs.forms.access.OwnServed.{Makes}
 use Rattle.mmu_core.proofs.machine.Worlds.{Takes, good_step}
+use Rattle.mmu_core.proofs.pages.Linked.{walk_linked}
 
 -- links lead to a leaf that allows the access
 abbrev pub Leads : (Area → ℕ → ℕ) → ℕ → Bool → Type 0
@@ -74,7 +75,8 @@ entry_leads z w a gfn write G there H stands =
     record {
       at = walk.level;
       entry = walk.entry;
-      leads = (leads_down z w gfn (table_page walk) walk.level walk.level walk.entry G (over_stands z w a gfn G there H.saw.over)).above
+      leads = (leads_linked z w gfn (table_page walk) walk.level walk.level walk.entry G (walk_linked z (view z w) G.topics a there H.saw.over.there)
+          (over_stands z w a gfn G there H.saw.over)).above
           (leads_at pool walk.level (table_page walk) gfn walk.entry H.saw.over.there stands H.leaf);
       leaf = H.leaf;
       allows = H.allows;
@@ -91,7 +93,8 @@ walks_installed (place.Access (Walk again)) (Access of_line word op) z w a gfn w
     λ is. record {
       at = L.at;
       entry = L.entry;
-      leads = (leads_down z w of_line (table_page walk) walk.level L.at L.entry G (over_stands z w a of_line G there K.1)).below L.leads;
+      leads = (leads_linked z w of_line (table_page walk) walk.level L.at L.entry G (walk_linked z (view z w) G.topics a there K.1.there)
+          (over_stands z w a of_line G there K.1)).below L.leads;
       leaf = L.leaf;
       allows = L.allows;
     }

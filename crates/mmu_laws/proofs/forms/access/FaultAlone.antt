@@ -68,6 +68,7 @@ use Rattle.part_steps.specs.PageTopics.{searched}
 use Rattle.mmu_core.proofs.pages.NoneBelow.{leaf_ends}
 use Rattle.part_steps.specs.PartHoldings.{IsEnd}
 use Rattle.spte_words.specs.Entries.{word_below}
+use Rattle.mmu_core.proofs.pages.Linked.{walk_linked}
 
 module _ (z : Sizes) (w : World Held) (a gfn note : ℕ) (write : Bool) (p : FaultPlace) (R : FaultRunsAlone z w a p gfn write) where
   abbrev t : Topics
@@ -100,7 +101,7 @@ module _ (z : Sizes) (w : World Held) (a gfn note : ℕ) (write : Bool) (p : Fau
   above_now : IsOver gfn t.walk → (e : ℕ) → LeadsTo (words area.Pool) t.walk.level page gfn t.walk.level e
       → LeadsTo (words area.Pool) 4 (words area.Root 0) gfn t.walk.level e
   above_now over e =
-      (leads_same R.sound.topics.tree few gfn t.walk.level e t.walk.level page (all_reached R.sound.topics.tree page _ (stands_over over))
+      (leads_same R.sound.topics.tree few gfn t.walk.level e t.walk.level page (walk_linked z (view z w) R.sound.topics a R.there over.there)
       (stands_over over)).above
 
   -- a fill leaves the entry
@@ -133,7 +134,7 @@ module _ (z : Sizes) (w : World Held) (a gfn note : ℕ) (write : Bool) (p : Fau
     leaf_leads : LeadsToLeaf (leafed new_) 4 (words area.Root 0) gfn write
     leaf_leads =
         installed (words area.Root 0) (words area.Slots 0) (leafed new_) (words area.Host) gfn write page t.walk.level new_ over.there
-        (leads_same tree_leafed few gfn t.walk.level new_ t.walk.level page (all_reached R.sound.topics.tree page _ (stands_over over))
+        (leads_same tree_leafed few gfn t.walk.level new_ t.walk.level page (walk_linked z (view z w) R.sound.topics a R.there over.there)
         (stands_over over)).above
         (ap (λ (pool : ℕ → ℕ). pool (pool_index page index)) stored ∙ upd_same (words area.Pool) (pool_index page index) new_) is_leaf allows
 

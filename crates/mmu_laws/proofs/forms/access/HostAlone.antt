@@ -12,7 +12,7 @@ use Rattle.part_steps.specs.SlotWords.{page_of}
 use Rattle.mmu_core.specs.alone.FaultAlone.{FaultRunsAlone, HostForbidsPage}
 use Rattle.core_views.specs.Sizes.{actors_of}
 use Rattle.mmu_core.specs.alone.OthersRest.{OthersRest}
-use Rattle.mmu_core.specs.invariant.HeldPart.{HoldsOld}
+use Rattle.mmu_core.specs.invariant.HeldPart.{HasRetired, HoldsOld}
 use Rattle.mmu_core.specs.invariant.Laws.{IsSound}
 use Rattle.mmu_core.specs.invariant.SlotSetPart.{IsLiveIn}
 use Rattle.mmu_core.specs.machine.Enabled.{mmu}
@@ -25,7 +25,7 @@ held_published : (z : Sizes) (w : World Held) (a k : ℕ) → a < actors_of z �
     → k ≡ word_in z w area.Slots 0
 held_published z w a k there G others held = by (G.topics.sets a k there held)
   where
-    by : (k ≡ word_in z w area.Slots 0) ⊎ HoldsOld (λ t. t.retired) (actors_of z) (λ i. (hand_in mmu w i).topics) a k → k ≡ word_in z w area.Slots 0
+    by : (k ≡ word_in z w area.Slots 0) ⊎ HoldsOld HasRetired (actors_of z) (λ i. (hand_in mmu w i).topics) a k → k ≡ word_in z w area.Slots 0
     by (inl e) = e
     by (inr H) = absurd (let none = (others H.by (subst (λ n. H.by < n) (sym G.hands) H.there) H.other).retires_none in let some = H.leaves in cc (none, some))
 
