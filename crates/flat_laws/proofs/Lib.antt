@@ -4,6 +4,7 @@ pub mod AloneReads
 pub mod HostAlone
 pub mod RunsAgree
 pub mod RunsStand
+pub mod RunsTogether
 pub mod Exact
 pub mod NextRuns
 pub mod RunsAlone

@@ -18,7 +18,7 @@ first_among page n = (omega arith, omega arith)
 pub later_among : (page n other : ℕ) → IsAmong (page + 1) n other → IsAmong page (suc n) other
 later_among page n other is = let low = is.0 in let high = is.1 in (omega (arith, low), omega (arith, high))
 
-both : (a b : Bool) → (a && b) ≡ true → (a ≡ true) × (b ≡ true)
+pub both : (a b : Bool) → (a && b) ≡ true → (a ≡ true) × (b ≡ true)
 both true b e = (refl, e)
 both false b e = absurd (cc e)
 
@@ -82,7 +82,7 @@ row_alike seen now_ frame writable page (suc n) same =
 
 -- ---- the refusal
 
-rows_none : (huge aligned : Bool) → first_of ((huge, IsHuge) ∷ (not aligned, NotAligned) ∷ []) ≡ None → (huge ≡ false) × (aligned ≡ true)
+pub rows_none : (huge aligned : Bool) → first_of ((huge, IsHuge) ∷ (not aligned, NotAligned) ∷ []) ≡ None → (huge ≡ false) × (aligned ≡ true)
 rows_none true aligned e = absurd (cc e)
 rows_none false true e = (refl, refl)
 rows_none false false e = absurd (cc e)

@@ -1,11 +1,12 @@
 -- Closed histories over pages that the host maps as one large page: what lines print that would change one of them alone, and what they may not do.
-use Rattle.std.specs.Prelude.{◌≡◌, ℕ, List, [], ◌∷◌, ◌++◌, true, false, map, codes}
+use Rattle.std.specs.Prelude.{◌≡◌, ◌+◌, ◌%◌, ◌<◌, ℕ, Bool, List, [], ◌∷◌, ◌++◌, None, true, false, map, codes}
 use Rattle.core_views.specs.declared.answer.Answer.{Answer}
 use Rattle.core_views.specs.declared.answer.Answer.TheVariants.{Done, Refused}
 use Rattle.core_views.specs.declared.answer.Refusal.TheVariants.{IsHuge, NoFrame}
 use Rattle.core_views.specs.declared.event.EventKind.{EventKind}
 use Rattle.core_views.specs.declared.event.EventKind.TheVariants.{Begun, LookedAtHost, Exited, HostChanged}
 use Rattle.core_views.specs.declared.actor.Actor.TheVariants.{Host}
+use Rattle.core_views.specs.declared.host.HostEntry.{HostEntry}
 use Rattle.core_views.specs.declared.trace.Command.TheVariants.{ChangeRun}
 use Rattle.core_views.specs.declared.trace.RunChange.{RunChange}
 use Rattle.core_views.specs.declared.trace.RunChange.TheVariants.{Huge, Small}
@@ -13,7 +14,8 @@ use Rattle.core_views.specs.declared.trace.HostChange.TheVariants.{Move, Evict, 
 use Rattle.core_views.specs.declared.trace.Line.{Line}
 use Rattle.core_views.specs.Flat.{Facts, Flat, first_facts, first_flat}
 use Rattle.core_views.specs.FlatHistory.{answers, by, one_by_one}
-use Rattle.core_views.specs.Host.{own_frames}
+use Rattle.core_views.specs.Host.{HostMap, is_huge, own_frames}
+use Rattle.core_views.specs.HostRuns.{run_pages, run_refusal}
 use Rattle.core_views.specs.Lawful.{IsLawful}
 use Rattle.core_views.specs.Text.{text}
 use Rattle.flat_laws.specs.HostExamples.{host_line, host_sizes}
@@ -68,3 +70,21 @@ SmallIsChanged = IsUnlawfulFrom first_flat (host_line 2 0 1 Evict) (LookedAtHost
 
 abbrev pub LargeIsLookedAt : Type 0
 LargeIsLookedAt = IsUnlawfulFrom large_flat (host_line 2 0 1 Evict) (Exited (Refused IsHuge) ∷ []) (Refused IsHuge)
+
+-- The page is present, at this frame, and allows writes or doesn't, as here.
+pub record IsPageOfRun (frame : ℕ) (writable : Bool) (entry : HostEntry) : Type 0 where
+  pub present : entry.present ≡ true
+  pub at_frame : entry.frame ≡ frame
+  pub writes : entry.writable ≡ writable
+
+-- The run of a level from this page on begins with a page and a frame that are multiples of how many pages it has. Its pages are present, at frames one after
+-- the other, allow writes alike, and none of them is part of a large one.
+pub record StandsTogether (host : HostMap) (page level : ℕ) : Type 0 where
+  pub page_begins : page % run_pages level ≡ 0
+  pub frame_begins : (host page).frame % run_pages level ≡ 0
+  pub pages : (k : ℕ) → k < run_pages level → IsPageOfRun ((host page).frame + k) (host page).writable (host (page + k))
+  pub small : (k : ℕ) → k < run_pages level → is_huge (host (page + k)) ≡ false
+
+-- So does each run that isn't refused to become large.
+abbrev pub LargeRunsStandTogether : Type 0
+LargeRunsStandTogether = (host : HostMap) (page level : ℕ) → run_refusal host page (Huge level) ≡ None → StandsTogether host page level

@@ -3,7 +3,8 @@ ghost use Rattle.flat_laws.specs.ReachedWrites.{OnlyWritesChange, OnlyWritesCoun
 ghost use Rattle.flat_laws.specs.SlotLines.{DeletesAtItsId, FittingPrints, KeepsOtherIds, LogsAtItsId, SetsAsRecord, SetsAtItsId, WholePrints};
 ghost use Rattle.flat_laws.specs.HostExamples.{FullPrints, HostPrints, PresentIsNotBroughtIn, AbsentIsNotReached, DeniedIsNotBroughtIn};
 ghost use Rattle.flat_laws.specs.HostExamples.{NamedIsNotTaken, OthersAreNotChanged, UnseenIsNotChanged};
-ghost use Rattle.flat_laws.specs.LargePages.{LargeIsLookedAt, LargeIsNotChanged, LargePrints, LargeRunsPrint, LargeWantsNoFrame, RunsPrint, SmallIsChanged};
+ghost use Rattle.flat_laws.specs.LargePages.{LargeIsLookedAt, LargeIsNotChanged, LargePrints, LargeRunsPrint, LargeRunsStandTogether};
+ghost use Rattle.flat_laws.specs.LargePages.{LargeWantsNoFrame, RunsPrint, SmallIsChanged};
 ghost use Rattle.flat_laws.specs.Writes.{DueFramesAreKept, WritesAreBegun, WritesAreUnderWay, WritesAreRecorded};
 ghost use Rattle.flat_laws.specs.Images.{AnsweredImagesAreMemory, AnsweredWordsAreInOrder, AnsweredWordsAreMemory, MigrationsAreImaged};
 ghost use Rattle.flat_laws.specs.MigrationCounts.{CopiedTellsPages, NoneIsLeftToCopy};
@@ -74,7 +75,9 @@ pub fn unlawful_histories_are_refused()
 /// moved, evicted, protected or allowed by itself: such a line is refused (`prints`), and so is one that
 /// is to make a run large that has such a page (`large`), or that isn't the thread's own (`runs`). It makes no
 /// change (`changed`), and isn't refused for want of a frame (`frame`). A line is refused so only where
-/// it has looked at its page (`looks`), and this was part of a large one (`small`).
+/// it has looked at its page (`looks`), and this was part of a large one (`small`). And whatever the host
+/// maps its pages to, a run that isn't refused to become large begins where runs of its level begin, in
+/// pages and in frames, and its pages stand one after the other and alike (`together`).
 pub fn large_pages_stay()
     ensures prints { LargePrints }
     ensures runs { RunsPrint }
@@ -83,6 +86,7 @@ pub fn large_pages_stay()
     ensures frame { LargeWantsNoFrame }
     ensures small { SmallIsChanged }
     ensures looks { LargeIsLookedAt }
+    ensures together { LargeRunsStandTogether }
 {}
 
 /// A law about what the flat state keeps of a history's writes. An actor and a guest

@@ -170,6 +170,7 @@ pub fn each_delay_has_its_cause()
 /// pages beyond those of its thread is refused in one step. And where a run of 512 pages becomes
 /// one large page each of them is looked at, and changed while the invalidation of the slot's guest
 /// frames is open; to do it again is refused with the first look; and each becomes a small page again.
+/// A run that begins one page further is not aligned, and is refused with the look at its last page.
 pub fn the_steps_can_be_made()
     ensures starts { EveryMachineStarts }
     ensures goes_on { EachMayStep }

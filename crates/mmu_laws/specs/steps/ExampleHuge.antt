@@ -1,8 +1,9 @@
--- A run in which a host thread maps all pages of a machine, which a slot gives to the guest, as one large page, is refused to do it again, and maps them by themselves again.
+-- A run in which a host thread maps the first pages of a machine, which a slot gives to the guest, as one large page, is refused to do it again, maps them by
+-- themselves again, and is refused a run that begins one page further.
 use Rattle.std.specs.Prelude.{◌≡◌, ◌+◌, ℕ, zero, suc, List, [], ◌∷◌, ◌++◌, replicate, codes, true, false}
 use Rattle.core_views.specs.declared.actor.Actor.TheVariants.{Host}
 use Rattle.core_views.specs.declared.answer.Answer.TheVariants.{Done, Refused}
-use Rattle.core_views.specs.declared.answer.Refusal.TheVariants.{IsHuge}
+use Rattle.core_views.specs.declared.answer.Refusal.TheVariants.{IsHuge, NotAligned}
 use Rattle.core_views.specs.declared.event.Event.{Event}
 use Rattle.core_views.specs.declared.event.EventKind.TheVariants.{Answered, Begun, Exited, HostChanged, LookedAtHost, SlotChanged}
 use Rattle.core_views.specs.declared.sizes.Sizes.{Sizes}
@@ -17,11 +18,11 @@ use Rattle.spte_words.specs.declared.area.Area.TheVariants as area
 use Rattle.spte_words.specs.HostWords.{host_word}
 use Rattle.mmu_laws.specs.steps.ExampleSteps.{RunLeaves, RunTells, unlogged}
 
--- a machine with the pages of one run of level 2
+-- a machine with the pages of one run of level 2, and one page more
 abbrev pub huge_sizes : Sizes
-huge_sizes = record example_sizes { pages = 512; frames = 512; first_pages = 0 ∷ 512 ∷ 512 ∷ 512 ∷ [] }
+huge_sizes = record example_sizes { pages = 513; frames = 513; first_pages = 0 ∷ 513 ∷ 513 ∷ 513 ∷ [] }
 
--- The manager sets a slot, of guest frames 1024 to 1535, which are these pages.
+-- The manager sets a slot, of guest frames 1024 to 1535, which are the pages of the run.
 abbrev pub run_slot : Slot
 run_slot = record { base = 1024; pages = 512; host = 0; read_only = false }
 
@@ -37,12 +38,15 @@ again_line = record { number = 4; actor = Host 0; command = ChangeRun 0 (Huge 2)
 abbrev pub split_line : Line
 split_line = record { number = 5; actor = Host 0; command = ChangeRun 5 Small }
 
+abbrev pub aside_line : Line
+aside_line = record { number = 6; actor = Host 0; command = ChangeRun 1 (Huge 2) }
+
 abbrev pub huge_lines : List Line
-huge_lines = slot_line ∷ huge_line ∷ again_line ∷ split_line ∷ []
+huge_lines = slot_line ∷ huge_line ∷ again_line ∷ split_line ∷ aside_line ∷ []
 
 -- The host thread's first line looks at each page, 512 steps; begins its invalidation with 48 steps, 35 of them for the slots, of which the first one is set, and
 -- one for its sweep, since no table is linked; changes each page, 512 steps; and ends the invalidation with six. Its second line makes one step. Its third line
--- makes as many as the first one.
+-- makes as many as the first one. Its fourth line looks at each page of its run, and is refused with the last look.
 abbrev pub order_of_huge : ℕ → List ℕ
 order_of_huge steps = replicate 524 3 ++ replicate steps 2
 
@@ -75,13 +79,17 @@ huge_events =
     ∷ (looks split_line 0 5
     ++ (looks split_line 6 506
     ++ (changes split_line 1 0 512
-    ++ (by split_line (Answered 5 Done) ∷ []))))))
+    ++ (by split_line (Answered 5 Done)
+    ∷ by aside_line (Begun aside_line)
+    ∷ (looks aside_line 1 512
+    ++ (by aside_line (Exited (Refused NotAligned)) ∷ by aside_line (Answered 6 (Refused NotAligned)) ∷ []))))))))
 
 -- After a hundred changes of the thread's first line the first hundred pages are of the large page, and the next one isn't yet, while the invalidation of
--- the slot's guest frames is open; after all of them the last page is. In the end this one is a small page again, and two invalidations have ended.
+-- the slot's guest frames is open; after all of them the last page is. In the end this one is a small page again, and two invalidations have ended: the
+-- refused line begins none.
 abbrev pub ExampleHuge : Type 0
 ExampleHuge =
-    RunTells huge_sizes huge_lines (order_of_huge 2157) huge_events
+    RunTells huge_sizes huge_lines (order_of_huge 2669) huge_events
     × RunLeaves huge_sizes huge_lines (order_of_huge 660) area.Host 99 (host_word 99 true true 2)
     × RunLeaves huge_sizes huge_lines (order_of_huge 660) area.Host 100 (host_word 100 true true 1)
     × RunLeaves huge_sizes huge_lines (order_of_huge 660) area.Count 0 1
@@ -89,7 +97,7 @@ ExampleHuge =
     × RunLeaves huge_sizes huge_lines (order_of_huge 660) area.RangeEnd 0 1536
     × RunLeaves huge_sizes huge_lines (order_of_huge 1078) area.Host 511 (host_word 511 true true 2)
     × RunLeaves huge_sizes huge_lines (order_of_huge 1078) area.Seq 0 1
-    × RunLeaves huge_sizes huge_lines (order_of_huge 2157) area.Host 511 (host_word 511 true true 1)
-    × RunLeaves huge_sizes huge_lines (order_of_huge 2157) area.Seq 0 2
-    × RunLeaves huge_sizes huge_lines (order_of_huge 2157) area.Count 0 0
-    × (text huge_events ≡ codes "2 vm done\n3 h0 done\n4 h0 refused is-huge\n5 h0 done\n")
+    × RunLeaves huge_sizes huge_lines (order_of_huge 2669) area.Host 511 (host_word 511 true true 1)
+    × RunLeaves huge_sizes huge_lines (order_of_huge 2669) area.Seq 0 2
+    × RunLeaves huge_sizes huge_lines (order_of_huge 2669) area.Count 0 0
+    × (text huge_events ≡ codes "2 vm done\n3 h0 done\n4 h0 refused is-huge\n5 h0 done\n6 h0 refused not-aligned\n")

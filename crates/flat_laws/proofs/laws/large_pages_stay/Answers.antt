@@ -6,6 +6,7 @@ use Rattle.core_views.specs.declared.host.HostEntry.{HostEntry}
 use Rattle.core_views.specs.Host.{is_huge}
 use Rattle.core_views.specs.Text.{line_text}
 use Rattle.core_views.proofs.RunStages.{only_one}
+use Rattle.flat_laws.proofs.RunsTogether.{stands_together}
 use Rattle.flat_laws.proofs.laws.large_pages_stay.Goals as goal
 
 -- What was noted is as it was looked at.
@@ -36,3 +37,6 @@ returns-clause-small c lawful = let saw = lawful.1.1.0.1.1 in absurd (cc (size_i
 
 pub returns-clause-looks : goal.returns-clause-looks
 returns-clause-looks c lawful = let saw = lawful.1.0.1.1 in absurd (cc saw.looked)
+
+pub returns-clause-together : goal.returns-clause-together
+returns-clause-together c = stands_together
