@@ -6,7 +6,7 @@ use Rattle.core_views.specs.declared.answer.Refusal.TheVariants.{IsHuge, NotAlig
 use Rattle.core_views.specs.declared.host.HostEntry.{HostEntry}
 use Rattle.core_views.specs.declared.sizes.Sizes.{Sizes}
 use Rattle.core_views.specs.declared.trace.Command.{Command}
-use Rattle.core_views.specs.declared.trace.Command.TheVariants.{ChangeRun}
+use Rattle.core_views.specs.declared.trace.Command.TheVariants.{ChangeHost, ChangeRun}
 use Rattle.core_views.specs.declared.trace.RunChange.{RunChange}
 use Rattle.core_views.specs.declared.trace.RunChange.TheVariants.{Huge, Small}
 use Rattle.core_views.specs.Host.{HostMap, is_huge}
@@ -38,6 +38,12 @@ level_set Small = 1
 abbrev pub sets_run : Command → Bool
 sets_run (ChangeRun page change) = true
 sets_run _ = false
+
+-- The command is one of a host thread: it changes a host page, or sets a run of them.
+abbrev pub is_of_host : Command → Bool
+is_of_host (ChangeHost page change) = true
+is_of_host (ChangeRun page change) = true
+is_of_host _ = false
 
 -- One of so many pages, from this one on, is part of a large one.
 abbrev pub is_any_huge : HostMap → ℕ → ℕ → Bool

@@ -1,5 +1,5 @@
 -- What is left of a line that sets a run of host pages, and runs alone, begins with its next event.
-use Rattle.std.proofs.Common.{◌≡◌, ◌∷◌, ◌+◌, ◌*◌, ◌/◌, ℕ, suc, true, refl, sym, ap, ap₂, ◌∙◌, subst}
+use Rattle.std.proofs.Common.{◌≡◌, ◌∷◌, ◌+◌, ℕ, suc, true, refl, sym, ap, ap₂, ◌∙◌, subst}
 use Rattle.std.specs.Prelude.{Option, Some}
 use Rattle.core_views.specs.declared.answer.Answer.TheVariants.{Refused}
 use Rattle.core_views.specs.declared.answer.Refusal.{Refusal}
@@ -21,7 +21,7 @@ use Rattle.core_views.specs.Lawful.{HasWork, MaySetNext, MaySetRun, SawHugeOne, 
 use Rattle.core_views.specs.Stages.{set_one}
 use Rattle.flat_laws.proofs.Exact.{AreExact, IsNext, size_noted}
 use Rattle.core_views.proofs.RunStages.{some_set}
-use Rattle.flat_laws.proofs.RunsAgree.{fits_now, one_is_huge, refused_alike, refused_huge}
+use Rattle.flat_laws.proofs.RunsAgree.{first_alike, fits_now, one_is_huge, refused_alike, refused_huge}
 
 -- A run has a first page to set.
 first_set : (z : Sizes) (line : Line) (page count level : ℕ) (f : Facts) → (n : ℕ) × (count ≡ suc n) → setting_run line page count level f
@@ -49,10 +49,6 @@ setting_is_next z f u page entry fresh may =
     ∙ (first_set z u.line first count level f (some_set change (f.host at))
     ∙ ap₂ (λ (k : EventKind) (s : Stage). by u.line k ∷ rest_of z u.line s (facts_after k f)) kind_is stage_is))))
   where
-    first_alike : (c : RunChange) (at : ℕ) (seen now_ : HostEntry) → seen.level ≡ now_.level → run_first c at seen ≡ run_first c at now_
-    first_alike (Huge level) at seen now_ same = refl
-    first_alike Small at seen now_ same = ap (λ (l : ℕ). at / run_pages l * run_pages l) same
-
     works : (c : Command) → c ≡ ChangeRun may.at may.change → HasWork z f u.line.actor c → HasWork z f u.line.actor (ChangeRun may.at may.change)
     works c asked does = subst (HasWork z f u.line.actor) asked does
 

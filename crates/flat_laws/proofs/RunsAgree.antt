@@ -1,5 +1,5 @@
 -- What was noted of a run of host pages, and what is: where the two agree, the run is refused alike.
-use Rattle.std.proofs.Common.{◌≡◌, ◌≢◌, ◌+◌, ◌==◌, ◌&&◌, ◌||◌, ◌%◌, ℕ, zero, suc, Bool, true, false, not, refl, sym, ap, ◌∙◌, arith, subst}
+use Rattle.std.proofs.Common.{◌≡◌, ◌≢◌, ◌+◌, ◌*◌, ◌/◌, ◌==◌, ◌&&◌, ◌||◌, ◌%◌, ℕ, zero, suc, Bool, true, false, not, refl, sym, ap, ◌∙◌, arith, subst}
 use Rattle.std.proofs.lemmas.Bool.{eq-eqb, eqb-true}
 use Rattle.std.specs.Prelude.{Some, None, [], ◌∷◌, if◌then◌else◌, nat_lt}
 use Rattle.core_views.specs.declared.answer.Refusal.TheVariants.{IsHuge, NotAligned}
@@ -91,6 +91,11 @@ none_rows : (huge aligned : Bool) → huge ≡ false → aligned ≡ true → fi
 none_rows true aligned small row = absurd (cc small)
 none_rows false true small row = refl
 none_rows false false small row = absurd (cc row)
+
+-- Where the host maps the page of a line at the same level as it was noted, the run has the same first page.
+pub first_alike : (change : RunChange) (page : ℕ) (seen now_ : HostEntry) → seen.level ≡ now_.level → run_first change page seen ≡ run_first change page now_
+first_alike (Huge level) page seen now_ same = refl
+first_alike Small page seen now_ same = ap (λ (l : ℕ). page / run_pages l * run_pages l) same
 
 -- A run that isn't refused as it was noted isn't as it is.
 pub fits_now : (seen now_ : HostMap) (page : ℕ) (change : RunChange)

@@ -15,10 +15,12 @@ use Rattle.core_views.specs.declared.topics.Topics.{Topics}
 use Rattle.core_views.specs.declared.trace.Command.{Command}
 use Rattle.core_views.specs.declared.trace.Command.TheVariants.{Access, ChangeHost, ChangeRun, Split}
 use Rattle.core_views.specs.declared.trace.Line.{Line}
+use Rattle.core_views.specs.declared.trace.Op.{Op}
 use Rattle.core_views.specs.Events.{after_all, facts_after, under_after}
 use Rattle.core_views.specs.Flat.{Facts, Flat, Idle, LineUnderWay, first_flat}
 use Rattle.core_views.specs.Held.{Held}
 use Rattle.core_views.specs.HostChanges.{changes_host}
+use Rattle.core_views.specs.HostRuns.{sets_run}
 use Rattle.core_views.specs.Lawful.{IsLawful, Tells}
 use Rattle.core_views.specs.SlotCommands.{changes_slot}
 use Rattle.spte_words.specs.declared.area.Area.TheVariants as area
@@ -44,7 +46,9 @@ use Rattle.mmu_laws.proofs.flat.Within.{AllWithin, tells_within}
 use Rattle.slot_laws.specs.DoneLines.{by}
 use Rattle.slot_laws.specs.OneChange.{HasBegunLine, HostLineTells, OfAnswered, SlotLineTells}
 use Rattle.slot_laws.proofs.BegunLines.{lines_under_way_have_begun, same_line}
+use Rattle.slot_laws.specs.RunLines.{RunLineTells}
 use Rattle.slot_laws.proofs.ChangesAnswered.{host_lines_tell, slot_lines_tell}
+use Rattle.slot_laws.proofs.RunLines.{run_lines_tell}
 use Rattle.step_seats.specs.LineTurns.{TurnsLine}
 use Rattle.step_seats.specs.Moves.{step_by}
 use Rattle.step_seats.specs.Seats.{Seat}
@@ -52,7 +56,7 @@ use Rattle.step_seats.specs.Where.{IsMadeIn}
 use Rattle.step_seats.specs.declared.turn.Turn.TheVariants.{Done}
 use Rattle.job_laws.proofs.Turned.{ends_of, is_access}
 use Rattle.job_laws.proofs.Turned as turned
-use Rattle.job_laws.specs.OneChange.{EndsWithLine, HostJobsChangeOnce, SlotJobsChangeOnce}
+use Rattle.job_laws.specs.OneChange.{EndsWithLine, HostJobsChangeOnce, HostRunJobsTell, SlotJobsChangeOnce}
 
 -- Within a line the line under way stays the same.
 same_behind : (kinds : List EventKind) (f : Facts) (u : LineUnderWay) → AllWithin kinds → (line_behind kinds f u).line ≡ u.line
@@ -195,20 +199,23 @@ module _ (z : Sizes) (lines : List Line) (start : World Held) (ss : List (Step K
       within : StaysWithin line.actor begun.since
       within = subst (λ (a : Actor). StaysWithin a begun.since) (sym own) begun.within
 
-slot_form : (command : Command) → changes_slot command ≡ true → is_access command ≡ false
-slot_form (Access gfn word op) is = absurd (cc is)
-slot_form _ is = refl
-
-host_form : (command : Command) → changes_host command ≡ true → is_access command ≡ false
-host_form (Access gfn word op) is = absurd (cc is)
-host_form _ is = refl
+-- A line with such a command is no access.
+no_access : (has : Command → Bool) → ((gfn word : ℕ) (op : Op) → has (Access gfn word op) ≡ false) → (command : Command) → has command ≡ true
+    → is_access command ≡ false
+no_access has none (Access gfn word op) is = absurd (let not_ = none gfn word op in cc (is, not_))
+no_access has none _ is = refl
 
 pub slot_jobs_change_once : SlotJobsChangeOnce
 slot_jobs_change_once z lines start ss before after answer is_start legal world left is turns =
-    ends_with z lines start ss before after answer is_start legal world left (slot_form (line_of before.hand).command is) turns changes_slot SlotLineTells
-    slot_lines_tell is
+    ends_with z lines start ss before after answer is_start legal world left
+    (no_access changes_slot (λ gfn word op. refl) (line_of before.hand).command is) turns changes_slot SlotLineTells slot_lines_tell is
 
 pub host_jobs_change_once : HostJobsChangeOnce
 host_jobs_change_once z lines start ss before after answer is_start legal world left is turns =
-    ends_with z lines start ss before after answer is_start legal world left (host_form (line_of before.hand).command is) turns changes_host HostLineTells
-    host_lines_tell is
+    ends_with z lines start ss before after answer is_start legal world left
+    (no_access changes_host (λ gfn word op. refl) (line_of before.hand).command is) turns changes_host HostLineTells host_lines_tell is
+
+pub host_run_jobs_tell : HostRunJobsTell
+host_run_jobs_tell z lines start ss before after answer is_start legal world left is turns =
+    ends_with z lines start ss before after answer is_start legal world left
+    (no_access sets_run (λ gfn word op. refl) (line_of before.hand).command is) turns sets_run RunLineTells run_lines_tell is

@@ -1,4 +1,5 @@
--- What is told once a turn answers a line of a job for slots, or of one for host pages: the whole of this line, with exactly one change or none.
+-- What is told once a turn answers a line of a job for slots, or of one for host pages: the whole of this line, with exactly one change, those of its run, or
+-- none.
 use Rattle.std.specs.Prelude.{◌≡◌, ◌<◌, Bool, List, [], ◌∷◌, ◌++◌, Some, length, true}
 use Rattle.core_views.specs.declared.answer.Answer.{Answer}
 use Rattle.core_views.specs.declared.event.Event.{Event}
@@ -10,6 +11,7 @@ use Rattle.core_views.specs.declared.trace.Line.{Line}
 use Rattle.core_views.specs.Flat.{Flat}
 use Rattle.core_views.specs.Held.{Held}
 use Rattle.core_views.specs.HostChanges.{changes_host}
+use Rattle.core_views.specs.HostRuns.{sets_run}
 use Rattle.core_views.specs.SlotCommands.{changes_slot}
 use Rattle.flat_laws.specs.Writes.{StaysWithin}
 use Rattle.mmu_core.specs.machine.Enabled.{mmu}
@@ -18,6 +20,7 @@ use Rattle.mmu_core.specs.machine.Turns.{line_of}
 use Rattle.mmu_core.specs.machine.Worlds.{IsStart, history}
 use Rattle.slot_laws.specs.DoneLines.{begins_after, by}
 use Rattle.slot_laws.specs.OneChange.{HostLineTells, SlotLineTells}
+use Rattle.slot_laws.specs.RunLines.{RunLineTells}
 use Rattle.step_seats.specs.LineTurns.{TurnsLine}
 use Rattle.step_seats.specs.Moves.{step_by}
 use Rattle.step_seats.specs.Seats.{Seat}
@@ -51,3 +54,7 @@ SlotJobsChangeOnce = OfAnsweredTurns changes_slot SlotLineTells
 -- A line of a host page's change: it changed its page once, as it asks, and was answered so; or it was refused, and changed nothing.
 abbrev pub HostJobsChangeOnce : Type 0
 HostJobsChangeOnce = OfAnsweredTurns changes_host HostLineTells
+
+-- A line of a run of host pages: it set its run, each page once, in rising order, and was answered done; or it was refused, and changed nothing.
+abbrev pub HostRunJobsTell : Type 0
+HostRunJobsTell = OfAnsweredTurns sets_run RunLineTells

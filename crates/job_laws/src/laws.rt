@@ -1,6 +1,6 @@
 ghost use Rattle.job_laws.specs.Begun.{BegunFramesAreEmpty, DoneHasBegun};
 ghost use Rattle.job_laws.specs.Ended.{EndsRaiseOnce};
-ghost use Rattle.job_laws.specs.OneChange.{HostJobsChangeOnce, SlotJobsChangeOnce};
+ghost use Rattle.job_laws.specs.OneChange.{HostJobsChangeOnce, HostRunJobsTell, SlotJobsChangeOnce};
 ghost use Rattle.job_laws.specs.ReadOut.{AfterReadingsWritesAreCovered, ReadingsHaveFlushes};
 ghost use Rattle.job_laws.specs.Splits.{SplitsTellWhatTheyFound};
 
@@ -47,6 +47,13 @@ pub fn slot_lines_change_once()
 /// it asks, and is answered so; or it is refused, and has changed none.
 pub fn host_lines_change_once()
     ensures { HostJobsChangeOnce }
+{}
+
+/// A law about `HostJob`. So do they of a line that sets a run of host pages: it has set each page of its
+/// run in between, once and in rising order, with all else of the page's entry kept, where right before the
+/// first change the run isn't to be refused, and is answered done; or it is refused, and has changed none.
+pub fn run_lines_set_their_run()
+    ensures { HostRunJobsTell }
 {}
 
 /// A law about `SplitJob`. Whatever steps led to the world in which a turn answers a line, its answer tells

@@ -7,5 +7,5 @@ mod laws;
 
 pub use laws::{
     begins_leave_nothing, ends_raise_once, host_lines_change_once, readings_leave_no_silent_write,
-    slot_lines_change_once, splits_tell_what_they_found,
+    run_lines_set_their_run, slot_lines_change_once, splits_tell_what_they_found,
 };

@@ -1,5 +1,5 @@
 -- What a slot line and a host line are answered says whether they have made their change.
-use Rattle.std.proofs.Common.{◌≡◌, ◌≢◌, inl, inr, ℕ, Bool, true, false, List, [], ◌∷◌, ◌++◌, refl, sym, ap, ◌∙◌, subst}
+use Rattle.std.proofs.Common.{◌≡◌, ◌≢◌, ℕ, true, false, List, [], ◌∷◌, ◌++◌, refl, sym, ap, ◌∙◌, subst}
 use Rattle.std.specs.Prelude.{Option, Some, None}
 use Rattle.std.specs.Option.{option_map}
 use Rattle.core_views.specs.declared.actor.Actor.{Actor}
@@ -8,9 +8,8 @@ use Rattle.core_views.specs.declared.answer.Answer.TheVariants.{Done, Refused}
 use Rattle.core_views.specs.declared.answer.Refusal.{Refusal}
 use Rattle.core_views.specs.declared.event.Event.{Event}
 use Rattle.core_views.specs.declared.event.EventKind.{EventKind}
-use Rattle.core_views.specs.declared.event.EventKind.TheVariants.{Begun, LookedAtPause, LookedAtSlots, LookedAtHost, BroughtIn, Accessed, Exited, SlotChanged}
-use Rattle.core_views.specs.declared.event.EventKind.TheVariants.{HostChanged, Armed, Taken, Harvested, Shown, Answered}
-use Rattle.core_views.specs.declared.event.EventKind.TheVariants.{GuestStopped, MigrationStarted, PauseSet, Resumed, WordCopied}
+use Rattle.core_views.specs.declared.event.EventKind.TheVariants.{Begun, SlotChanged}
+use Rattle.core_views.specs.declared.event.EventKind.TheVariants.{HostChanged, Answered}
 use Rattle.core_views.specs.declared.host.HostEntry.{HostEntry}
 use Rattle.core_views.specs.declared.sizes.Sizes.{Sizes}
 use Rattle.core_views.specs.declared.trace.Command.{Command}
@@ -18,25 +17,22 @@ use Rattle.core_views.specs.declared.trace.Command.TheVariants.{ChangeHost, Chan
 use Rattle.core_views.specs.declared.trace.HostChange.{HostChange}
 use Rattle.core_views.specs.declared.trace.HostChange.TheVariants.{Allow, Evict, Move, Protect}
 use Rattle.core_views.specs.declared.trace.Line.{Line}
-use Rattle.core_views.specs.Actors.{is_same}
-use Rattle.core_views.specs.Alone.{IsInside}
-use Rattle.core_views.specs.Events.{after, after_all, under_after}
-use Rattle.core_views.specs.Flat.{Facts, Flat, Fresh, HasArmed, HasChanged, HasChangedHost, HasLeft}
-use Rattle.core_views.specs.Flat.{LineUnderWay, Notes, Stage, first_flat}
+use Rattle.core_views.specs.Events.{after_all, under_after}
+use Rattle.core_views.specs.Flat.{Facts, Flat, Fresh, HasArmed, HasChanged, HasChangedHost, HasLeft, HasToSet}
+use Rattle.core_views.specs.Flat.{LineUnderWay, Stage, first_flat}
 use Rattle.core_views.specs.HostChanges.{changes_host, host_answer, host_refusal}
-use Rattle.core_views.specs.Lawful.{IsAllowed, IsLawful, MayLeave, Tells}
-use Rattle.core_views.specs.Past.{Past}
+use Rattle.core_views.specs.Lawful.{IsLawful, Tells}
 use Rattle.core_views.specs.SlotCommands.{changes_slot}
-use Rattle.core_views.proofs.SameActor.{changed_here, same_is}
+use Rattle.core_views.proofs.SameActor.{changed_here}
 use Rattle.flat_laws.specs.Writes.{StaysWithin}
 use Rattle.flat_laws.proofs.AloneIsLawful.{lawful_parts}
 use Rattle.slot_laws.specs.DoneLines.{begins_after, by}
 use Rattle.slot_laws.specs.OneChange.{TellsNoChange, HostLineTells, HostLinesTell, SlotLineTells, SlotLinesTell, TellsOne, is_refused}
-use Rattle.slot_laws.proofs.BegunLines.{here, same_line, there}
-use Rattle.slot_laws.proofs.OneChange.{None_, One_, Walked, entry_told, line_stays, made, walked}
+use Rattle.slot_laws.proofs.HostLineStages.{FitsHost, fits_all}
+use Rattle.slot_laws.proofs.LineEvents.{line_stays}
+use Rattle.slot_laws.proofs.OneChange.{None_, One_, Walked, entry_told, made, walked}
 use Rattle.slot_laws.proofs.DoneLines.{done_comes_of_one_change}
-use Rattle.core_views.specs.HostRuns.{sets_run}
-use Rattle.core_views.proofs.RunStages.{changed_one}
+use Rattle.core_views.specs.HostRuns.{is_of_host, sets_run}
 
 -- ---- what its answer says
 
@@ -52,80 +48,18 @@ answered_done z f actor command (HasChangedHost entry) answer is some told = by 
     by _ slot_line same = same
 answered_done z f actor command _ answer is some told = absurd (some refl)
 
--- The stages of a host line: it has done nothing yet, or is refused, or has changed its page.
-abbrev FitsHost : Stage → Type 0
-FitsHost Fresh = Unit {0}
-FitsHost (HasLeft how) = is_refused how ≡ true
-FitsHost (HasChangedHost entry) = Unit {0}
-FitsHost _ = ⊥
-
-left_refused : (z : Sizes) (f : Facts) (actor : Actor) (page : ℕ) (change : HostChange) (notes : Notes) (answer : Answer)
-    → MayLeave z f actor (ChangeHost page change) notes answer → is_refused answer ≡ true
-left_refused z f actor page change notes (Refused refusal) may = refl
-left_refused z f actor page Move notes answer may = absurd may
-left_refused z f actor page change notes answer may = absurd may
+pub refused_at_once : (o : Option Refusal) (answer : Answer) → option_map (λ refusal. Refused refusal) o ≡ Some answer → is_refused answer ≡ true
+refused_at_once None answer e = absurd (cc e)
+refused_at_once (Some refusal) answer e = let same : Refused refusal ≡ answer = cc e in ap is_refused (sym same)
 
 module _ (z : Sizes) (page : ℕ) (change : HostChange) where
-  fits_own : (f : Facts) (past : Past) (actor : Actor) (u : LineUnderWay) (kind : EventKind) → u.line.command ≡ ChangeHost page change
-      → IsAllowed z f past actor u kind → IsInside kind → FitsHost u.stage → FitsHost (under_after kind f u).stage
-  fits_own f past actor u (Begun l) is may inside fits = absurd inside
-  fits_own f past actor u (Answered number answer) is may inside fits = absurd inside
-  fits_own f past actor u LookedAtPause is may inside fits = fits
-  fits_own f past actor u LookedAtSlots is may inside fits = fits
-  fits_own f past actor u (LookedAtHost other) is may inside fits = fits
-  fits_own f past actor u (BroughtIn other) is may inside fits = fits
-  fits_own f past actor u (Accessed gfn word op frame value) is may inside fits = absurd (let access = may.1 in cc (is, access))
-  fits_own f past actor u (Exited answer) is may inside fits =
-      left_refused z f actor page change u.notes answer (subst (λ (c : Command). MayLeave z f actor c u.notes answer) is may.1)
-  fits_own f past actor u (SlotChanged id slot) is may inside fits = absurd (let asks = may.2 in cc (is, asks))
-  fits_own f past actor u (Armed id all) is may inside fits = absurd (subst FitsHost may.0 fits)
-  fits_own f past actor u (Taken id) is (inl may) inside fits = absurd (let reads = may.2 in cc (is, reads))
-  fits_own f past actor u (Taken id) is (inr may) inside fits = absurd (let asked = may.asked in cc (is, asked))
-  fits_own f past actor u (Harvested id frames) is (inl may) inside fits = absurd (subst FitsHost may.begun fits)
-  fits_own f past actor u (Harvested id frames) is (inr may) inside fits = absurd (subst FitsHost may.begun fits)
-  fits_own f past actor u (Shown id frames) is may inside fits = absurd (subst FitsHost may.begun fits)
-  fits_own f past actor u (HostChanged other entry) is (inl may) inside fits =
-      subst FitsHost (sym (changed_one u.line.command f.host u.stage other entry page change may.0 is)) tt
-  fits_own f past actor u (HostChanged other entry) is (inr (inl may)) inside fits = absurd (let asked = may.1.asked in cc (is, asked))
-  fits_own f past actor u (HostChanged other entry) is (inr (inr may)) inside fits = absurd (let asked = may.asked in cc (is, asked))
-  fits_own f past actor u MigrationStarted is may inside fits = absurd (let asked = may.2 in cc (is, asked))
-  fits_own f past actor u PauseSet is may inside fits = absurd (let asked = may.2 in cc (is, asked))
-  fits_own f past actor u GuestStopped is may inside fits = absurd (subst FitsHost may fits)
-  fits_own f past actor u (WordCopied gfn other word value whole) is may inside fits = absurd (subst FitsHost may.left fits)
-  fits_own f past actor u Resumed is may inside fits = absurd (let asked = may.2 in cc (is, asked))
-
-  fits_all : (line : Line) (es : List Event) (f : Flat) → line.command ≡ ChangeHost page change → IsLawful z f es → StaysWithin line.actor es
-      → (f.under line.actor).line ≡ line → FitsHost (f.under line.actor).stage → FitsHost ((after_all es f).under line.actor).stage
-  fits_all line [] f is lawful within same fits = fits
-  fits_all line (e ∷ es) f is lawful within same fits =
-      by (is_same e.actor line.actor) refl (λ more fitting. fits_all line es (after e f) is lawful.1 within.1 more fitting)
-    where
-      by : (b : Bool) → is_same e.actor line.actor ≡ b
-          → (((after e f).under line.actor).line ≡ line → FitsHost ((after e f).under line.actor).stage
-          → FitsHost ((after_all es (after e f)).under line.actor).stage)
-          → FitsHost ((after_all es (after e f)).under line.actor).stage
-      by true own_ more =
-          let mine : e.actor ≡ line.actor = same_is e.actor line.actor own_ in
-          let inside : IsInside e.kind = within.0 mine in
-          let now_ = here z line.actor e f mine in
-          more (ap (λ (u : LineUnderWay). u.line) now_ ∙ same_line e.kind f.facts (f.under line.actor) inside ∙ same)
-          (subst (λ (u : LineUnderWay). FitsHost u.stage) (sym now_)
-          (fits_own f.facts f.past line.actor (f.under line.actor) e.kind (ap (λ (l : Line). l.command) same ∙ is)
-          (subst (λ (x : Actor). IsAllowed z f.facts f.past x (f.under x) e.kind) mine lawful.0) inside fits))
-      by false apart more =
-          let still = there z line.actor e f apart in
-          more (ap (λ (u : LineUnderWay). u.line) still ∙ same) (subst (λ (u : LineUnderWay). FitsHost u.stage) (sym still) fits)
-
-  refused_at_once : (o : Option Refusal) (answer : Answer) → option_map (λ refusal. Refused refusal) o ≡ Some answer → is_refused answer ≡ true
-  refused_at_once None answer e = absurd (cc e)
-  refused_at_once (Some refusal) answer e = let same : Refused refusal ≡ answer = cc e in ap is_refused (sym same)
-
   -- A host line that has changed nothing is refused; and else it is answered what its change says.
-  unchanged_refused : (f : Facts) (actor : Actor) (s : Stage) (answer : Answer) → FitsHost s → made s ≡ None
+  unchanged_refused : (f : Facts) (actor : Actor) (s : Stage) (answer : Answer) → FitsHost (ChangeHost page change) s → made s ≡ None
       → Tells z f actor (ChangeHost page change) s answer → is_refused answer ≡ true
   unchanged_refused f actor Fresh answer fits none told = refused_at_once (host_refusal z actor page) answer told
   unchanged_refused f actor (HasLeft how) answer fits none told = ap is_refused told ∙ fits
   unchanged_refused f actor (HasChangedHost entry) answer fits none told = absurd (cc none)
+  unchanged_refused f actor (HasToSet other left level) answer fits none told = absurd (cc fits)
   unchanged_refused f actor _ answer fits none told = absurd fits
 
   changed_answer : (f : Facts) (actor : Actor) (s : Stage) (answer : Answer) (entry : HostEntry) → made s ≡ Some (Some entry)
@@ -152,7 +86,7 @@ sets_none _ is = refl
 module _ (z : Sizes) (before between : List Event) (line : Line) (answer : Answer)
     (lawful : IsLawful z first_flat (before ++ (by line (Begun line) ∷ (between ++ (by line (Answered line.number answer) ∷ [])))))
     (within : StaysWithin line.actor between) where
-  abbrev start : Flat
+  abbrev pub start : Flat
   start = begins_after line before
 
   begun : start.under line.actor ≡ under_after (Begun line) (after_all before first_flat).facts ((after_all before first_flat).under line.actor)
@@ -160,21 +94,25 @@ module _ (z : Sizes) (before between : List Event) (line : Line) (answer : Answe
       changed_here line.actor (under_after (Begun line) (after_all before first_flat).facts ((after_all before first_flat).under line.actor))
       (after_all before first_flat).under
 
-  begun_line : (start.under line.actor).line ≡ line
+  pub begun_line : (start.under line.actor).line ≡ line
   begun_line = ap (λ (u : LineUnderWay). u.line) begun
 
-  begun_stage : (start.under line.actor).stage ≡ Fresh
+  pub begun_stage : (start.under line.actor).stage ≡ Fresh
   begun_stage = ap (λ (u : LineUnderWay). u.stage) begun
 
-  parts : IsLawful z start between × IsLawful z (after_all between start) (by line (Answered line.number answer) ∷ [])
+  pub parts : IsLawful z start between × IsLawful z (after_all between start) (by line (Answered line.number answer) ∷ [])
   parts =
       lawful_parts z between (by line (Answered line.number answer) ∷ []) start
       (lawful_parts z before (by line (Begun line) ∷ (between ++ (by line (Answered line.number answer) ∷ []))) first_flat lawful).1.1
 
-  tells : Tells z (after_all between start).facts line.actor line.command ((after_all between start).under line.actor).stage answer
+  pub tells : Tells z (after_all between start).facts line.actor line.command ((after_all between start).under line.actor).stage answer
   tells =
       subst (λ (l : Line). Tells z (after_all between start).facts line.actor l.command ((after_all between start).under line.actor).stage answer)
-      (line_stays z line between start within begun_line) parts.1.0.1
+      (line_stays z line between start parts.0 within begun_line) parts.1.0.1
+
+  -- A line of a host thread ends at one of its stages.
+  pub host_fits : is_of_host line.command ≡ true → FitsHost line.command ((after_all between start).under line.actor).stage
+  host_fits of_host = fits_all z line of_host between start parts.0 within begun_line (subst (FitsHost line.command) (sym begun_stage) tt)
 
   walk : sets_run line.command ≡ false → Walked z line start between
   walk one = walked z line between start one parts.0 within begun_line
@@ -202,8 +140,8 @@ module _ (z : Sizes) (before between : List Event) (line : Line) (answer : Answe
       host_tells : Tells z (after_all between start).facts line.actor (ChangeHost page change) end_stage answer
       host_tells = subst (λ (c : Command). Tells z (after_all between start).facts line.actor c end_stage answer) is tells
 
-      fits : FitsHost end_stage
-      fits = fits_all z page change line between start is parts.0 within begun_line (subst FitsHost (sym begun_stage) tt)
+      fits : FitsHost (ChangeHost page change) end_stage
+      fits = subst (λ (c : Command). FitsHost c end_stage) is (host_fits (ap is_of_host is))
 
       answer_is : (entry : HostEntry) → made end_stage ≡ Some (Some entry) → answer ≡ host_answer line.command entry
       answer_is entry made_ =

@@ -2,5 +2,9 @@ pub mod SlotRules
 pub mod SlotLineStages
 pub mod DoneLines
 pub mod BegunLines
+pub mod LineEvents
+pub mod HostLineStages
 pub mod OneChange
 pub mod ChangesAnswered
+pub mod RunEvents
+pub mod RunLines

@@ -11,7 +11,6 @@ use Rattle.core_views.specs.declared.host.HostEntry.{HostEntry}
 use Rattle.core_views.specs.declared.sizes.Sizes.{Sizes}
 use Rattle.core_views.specs.declared.trace.Command.{Command}
 use Rattle.core_views.specs.declared.trace.Line.{Line}
-use Rattle.core_views.specs.Actors.{is_same}
 use Rattle.core_views.specs.Alone.{IsInside}
 use Rattle.core_views.specs.Events.{after, after_all, facts_after, logs_left, stage_copied, stage_read, stage_taken, to_read_or_copy, under_after}
 use Rattle.core_views.specs.Flat.{Facts, Flat, HasArmed, HasChanged, HasChangedHost, HasTakenNext, HasToCopy}
@@ -20,11 +19,9 @@ use Rattle.core_views.specs.Lawful.{IsAllowed, IsLawful, MayHarvest, MayRead}
 use Rattle.core_views.specs.LogCommands.{log_read}
 use Rattle.core_views.specs.Past.{Past}
 use Rattle.core_views.specs.SlotSets.{MemorySlots}
-use Rattle.core_views.proofs.SameActor.{same_is}
 use Rattle.flat_laws.specs.Writes.{StaysWithin}
-use Rattle.flat_laws.proofs.Writes.{apart_actors}
 use Rattle.slot_laws.specs.OneChange.{AsksFor, TellsNoChange, TellsOne, is_change}
-use Rattle.slot_laws.proofs.BegunLines.{here, same_line, there}
+use Rattle.slot_laws.proofs.LineEvents.{over_line}
 use Rattle.core_views.specs.HostRuns.{sets_run}
 use Rattle.core_views.proofs.RunStages.{changed_one}
 
@@ -146,37 +143,20 @@ module _ (z : Sizes) (line : Line) where
   }) none (end_ ∙ makes)
   makes_now e es f mine none makes asks (One_ kind T none_yet end_) = absurd (cc (none_yet, makes))
 
-  pub walked : (es : List Event) (f : Flat) → sets_run line.command ≡ false → IsLawful z f es → StaysWithin line.actor es → (under_in f).line ≡ line → Walked z line f es
-  walked [] f none lawful within is = None_ tt refl
-  walked (e ∷ es) f none lawful within is = by_actor (is_same e.actor line.actor) refl (λ more. walked es (after e f) none lawful.1 within.1 more)
+  pub walked : (es : List Event) (f : Flat) → sets_run line.command ≡ false → IsLawful z f es → StaysWithin line.actor es → (under_in f).line ≡ line
+      → Walked z line f es
+  walked es f none lawful within is =
+      over_line z line (Walked z line) (λ g same. None_ tt refl)
+      (λ e g xs apart still more. keeps_on e xs g (λ mine. absurd (apart mine)) (ap (λ (u : LineUnderWay). made u.stage) still) more)
+      (λ e g xs mine inside same may now_ more. by_own e g xs mine same now_
+      (own z g.facts g.past line.actor (under_in g) e.kind (ap (λ (l : Line). sets_run l.command) same ∙ none) may inside) more)
+      es f lawful within is
     where
-      by_own : e.actor ≡ line.actor → Own z f.facts (under_in f) e.kind → Walked z line (after e f) es → Walked z line f (e ∷ es)
-      by_own mine (Keeps leaves same) more =
-          keeps_on e es f (λ own_. leaves) (ap (λ (u : LineUnderWay). made u.stage) (here z line.actor e f mine) ∙ same) more
-      by_own mine (Makes none makes asks) more =
-          makes_now e es f mine none (ap (λ (u : LineUnderWay). made u.stage) (here z line.actor e f mine) ∙ makes)
-          (subst (λ (l : Line). AsksFor z f.facts l.command e.kind) is asks) more
-
-      by_actor : (b : Bool) → is_same e.actor line.actor ≡ b → ((under_in (after e f)).line ≡ line → Walked z line (after e f) es) → Walked z line f (e ∷ es)
-      by_actor true same more =
-          let mine : e.actor ≡ line.actor = same_is e.actor line.actor same in
-          let inside : IsInside e.kind = within.0 mine in
-          by_own mine
-          (own z f.facts f.past line.actor (under_in f) e.kind (ap (λ (l : Line). sets_run l.command) is ∙ none) (subst (λ (x : Actor). IsAllowed z f.facts f.past x (f.under x) e.kind) mine lawful.0) inside)
-          (more (ap (λ (u : LineUnderWay). u.line) (here z line.actor e f mine) ∙ same_line e.kind f.facts (under_in f) inside ∙ is))
-      by_actor false apart more =
-          keeps_on e es f (λ mine. absurd (apart_actors e.actor line.actor apart mine))
-          (ap (λ (u : LineUnderWay). made u.stage) (there z line.actor e f apart))
-          (more (ap (λ (u : LineUnderWay). u.line) (there z line.actor e f apart) ∙ is))
-
-  -- The line under way stays this one.
-  pub line_stays : (es : List Event) (f : Flat) → StaysWithin line.actor es → (under_in f).line ≡ line → (under_in (after_all es f)).line ≡ line
-  line_stays [] f within is = is
-  line_stays (e ∷ es) f within is = by (is_same e.actor line.actor) refl (λ more. line_stays es (after e f) within.1 more)
-    where
-      by : (b : Bool) → is_same e.actor line.actor ≡ b → ((under_in (after e f)).line ≡ line → (under_in (after_all es (after e f))).line ≡ line)
-          → (under_in (after_all es (after e f))).line ≡ line
-      by true same more =
-          let mine : e.actor ≡ line.actor = same_is e.actor line.actor same in
-          more (ap (λ (u : LineUnderWay). u.line) (here z line.actor e f mine) ∙ same_line e.kind f.facts (under_in f) (within.0 mine) ∙ is)
-      by false apart more = more (ap (λ (u : LineUnderWay). u.line) (there z line.actor e f apart) ∙ is)
+      by_own : (e : Event) (g : Flat) (xs : List Event) → e.actor ≡ line.actor → (under_in g).line ≡ line
+          → under_in (after e g) ≡ under_after e.kind g.facts (under_in g) → Own z g.facts (under_in g) e.kind → Walked z line (after e g) xs
+          → Walked z line g (e ∷ xs)
+      by_own e g xs mine same now_ (Keeps leaves unmade) more =
+          keeps_on e xs g (λ own_. leaves) (ap (λ (u : LineUnderWay). made u.stage) now_ ∙ unmade) more
+      by_own e g xs mine same now_ (Makes none makes asks) more =
+          makes_now e xs g mine none (ap (λ (u : LineUnderWay). made u.stage) now_ ∙ makes)
+          (subst (λ (l : Line). AsksFor z g.facts l.command e.kind) same asks) more

@@ -3,3 +3,4 @@ pub mod Starving
 pub mod DoneLines
 pub mod OneChange
 pub mod RunLines
+pub mod RunOrder

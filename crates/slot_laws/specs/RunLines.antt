@@ -1,5 +1,5 @@
 -- What a line tells that makes a run of host pages large, or the pages of a large one small: in words over the events between its begin and its answer.
-use Rattle.std.specs.Prelude.{◌≡◌, ◌+◌, ℕ, zero, suc, List, [], ◌∷◌, ◌++◌, None, true, false}
+use Rattle.std.specs.Prelude.{◌≡◌, ◌+◌, ℕ, zero, suc, List, ◌∷◌, ◌++◌, None, true, false}
 use Rattle.core_views.specs.declared.answer.Answer.{Answer}
 use Rattle.core_views.specs.declared.answer.Answer.TheVariants.{Done}
 use Rattle.core_views.specs.declared.event.Event.{Event}
@@ -32,8 +32,8 @@ SetsPages line page (suc left) level f events =
 abbrev pub first_set : RunChange → ℕ → HostMap → ℕ
 first_set change at host = run_first change at (host at)
 
--- These events, which come after this state, set the run for which the line asks, whole, each page once. With the first change, right before which the host maps
--- its pages so that the run isn't refused, the others follow.
+-- These events, which come after this state, set the run for which the line asks, whole, each page once. With the first change, right before which the host
+-- maps its pages so that the run isn't refused, the others follow.
 pub record SetsItsRun (line : Line) (f : Flat) (events : List Event) : Type 0 where
   pub at : ℕ
   pub change : RunChange

@@ -1,5 +1,7 @@
 ghost use Rattle.slot_laws.specs.DoneLines.{DoneComesOfOneChange};
 ghost use Rattle.slot_laws.specs.OneChange.{HostLinesTell, LinesUnderWayHaveBegun, SlotLinesTell};
+ghost use Rattle.slot_laws.specs.RunLines.{RunLinesTell};
+ghost use Rattle.slot_laws.specs.RunOrder.{LeavesNone, SetsInOrder, SetsTheLastTwo};
 ghost use Rattle.slot_laws.specs.SlotRules.{DeletionsAreOfSlots, DoneAtOnceChangesNone, SetSlotsKeepShapes, WorkChangesOne};
 ghost use Rattle.slot_laws.specs.Starving.{MissingCannotStarve, UnchangedCannotStarve};
 
@@ -33,10 +35,24 @@ pub fn idle_slot_lines_cannot_starve()
 /// A law about lawful histories. Between its begin and its answer a slot line that is answered done has
 /// changed its slot once, as it asks, or has nothing to do; and any other answer comes of no change
 /// (`slots`). A host line that isn't refused has changed its host page once, as it asks, and is answered
-/// so, and one that is refused has changed none (`hosts`). Each line that is under way has begun, and its
-/// actor has answered none since (`begun`).
+/// so, and one that is refused has changed none (`hosts`). A line of a run of host pages that isn't refused
+/// is answered done and has set each page of its run once, in rising order, with all else of their entries
+/// kept, where right before its first change the run isn't to be refused; and one that is refused has
+/// changed none (`runs`). Each line that is under way has begun, and its actor has answered none since
+/// (`begun`).
 pub fn lines_change_once()
     ensures slots { SlotLinesTell }
     ensures hosts { HostLinesTell }
+    ensures runs { RunLinesTell }
     ensures begun { LinesUnderWayHaveBegun }
+{}
+
+/// A law about three closed histories of a line that makes the pages of a large one small, and has the last
+/// two of them left to set. The one in which it sets both, in their order, and is answered done is lawful
+/// (`whole`). One in which it is done with a page left isn't (`left`), nor is one in which it sets the two
+/// in the other order (`order`).
+pub fn runs_are_set_in_order()
+    ensures whole { SetsTheLastTwo }
+    ensures left { LeavesNone }
+    ensures order { SetsInOrder }
 {}
