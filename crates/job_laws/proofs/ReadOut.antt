@@ -52,7 +52,6 @@ use Rattle.mmu_core.proofs.machine.LineRuns.{legal_one_more}
 use Rattle.mmu_core.proofs.machine.PartStepping.{behind_part}
 use Rattle.mmu_core.proofs.pages.NoneBelow.{over_frame}
 use Rattle.mmu_core.proofs.pages.Standing.{spot_of}
-use Rattle.mmu_core.proofs.pages.TreePlaces.{all_reached}
 use Rattle.mmu_laws.proofs.flat.BeginningsKept.{beginning_is}
 use Rattle.mmu_laws.proofs.forms.log.ReadSlots.{taken_is}
 use Rattle.mmu_laws.proofs.leaves.LeafLaws.{from_root}

@@ -35,7 +35,6 @@ use Rattle.mmu_core.proofs.invariant.QuietKept.{MakesAt}
 use Rattle.mmu_core.proofs.forms.access.CachedKept.{found_is_leaf, with_leaf_all}
 use Rattle.mmu_core.proofs.machine.PartStepping.{IsPart}
 use Rattle.mmu_core.proofs.pages.Standing.{spot_of}
-use Rattle.mmu_core.proofs.pages.TreePlaces.{all_reached}
 use Rattle.log_invariant.specs.Excuses.{ExcusesCached, ExcusesLeaf, forbidding}
 use Rattle.log_invariant.specs.Forbidding.{PassedTo, FlushesLater, Forbidding, HowFar, IsUnflushed, MayHaveCached, PassedAll}
 use Rattle.log_invariant.specs.LogInvariant.{AreGuarded, LeafIsGuarded, LogInvariant, UseIsGuarded}

@@ -51,7 +51,6 @@ use Rattle.mmu_core.proofs.lines.StepIn.{StepIn, Makes, Touches, step_of}
 use Rattle.mmu_core.proofs.machine.PartStepping.{IsPart}
 use Rattle.mmu_core.proofs.machine.Stepping.{IsStep}
 use Rattle.mmu_core.proofs.pages.Standing.{spot_of}
-use Rattle.mmu_core.proofs.pages.TreePlaces.{all_reached}
 use Rattle.mmu_core.proofs.words.PartTopics.{is_there, part_topics_is}
 use Rattle.mmu_core.proofs.held.FlushSteps.{KeepsClean, part_flushed, touch_flushed}
 pub use Rattle.mmu_core.proofs.held.FlushSteps.{FlushAt}

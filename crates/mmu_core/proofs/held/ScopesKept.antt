@@ -37,7 +37,7 @@ use Rattle.mmu_core.proofs.slots.LiveStays.{SetStays, published_stays}
 use Rattle.mmu_core.proofs.slots.SlotsStay.{is_live_stays, is_live_was}
 use Rattle.mmu_core.proofs.words.PartTopics.{behind_step, part_behind}
 use Rattle.mmu_core.proofs.words.PartWords.{slots_are, slots_same}
-use Rattle.part_steps.specs.StayTopics.{has_lock, is_outside}
+use Rattle.part_steps.specs.StayTopics.{has_lock}
 use Rattle.part_steps.specs.PartTopics.{part_topics}
 use Rattle.part_steps.specs.PartTasks.{part_task}
 use Rattle.mmu_core.proofs.forms.access.FaultSame.{both}

@@ -18,7 +18,6 @@ use Rattle.mmu_core.specs.machine.Machine.{World, hand_in}
 use Rattle.mmu_core.specs.machine.View.{word_in}
 use Rattle.mmu_core.proofs.pages.NoneBelow.{over_frame}
 use Rattle.mmu_core.proofs.pages.Standing.{spot_of}
-use Rattle.mmu_core.proofs.pages.TreePlaces.{all_reached}
 use Rattle.mmu_laws.specs.leaves.OpenFrames.{KeepsEmpty, HasOpen, flush_of, own_of}
 use Rattle.mmu_core.proofs.held.KeptEmpty.{empty_open}
 use Rattle.mmu_laws.proofs.leaves.LeafLaws.{from_root}

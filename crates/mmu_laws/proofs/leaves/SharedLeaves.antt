@@ -43,7 +43,6 @@ use Rattle.mmu_core.proofs.machine.Columns.{at_upd, same_or, upd_same}
 use Rattle.mmu_core.proofs.machine.PartStepping.{IsPart}
 use Rattle.mmu_core.proofs.pages.LeavesOver.{leaf_for}
 use Rattle.mmu_core.proofs.pages.Standing.{spot_of}
-use Rattle.mmu_core.proofs.pages.TreePlaces.{all_reached}
 use Rattle.mmu_core.proofs.slots.LiveStay.{leaf_stays}
 use Rattle.mmu_core.proofs.slots.LiveStays.{live_in_stays, part_live_stays}
 use Rattle.mmu_core.proofs.words.PartTopics.{behind_step, part_behind, stepped_hand}

@@ -33,7 +33,6 @@ use Rattle.part_steps.specs.PartTopics.{part_topics}
 use Rattle.part_steps.specs.SlotWords.{page_of}
 use Rattle.part_steps.specs.StayTopics.{may_search}
 use Rattle.mmu_core.specs.invariant.TreePart.{TreePart, at, stands}
-use Rattle.mmu_core.proofs.pages.TreePlaces.{all_reached}
 use Rattle.mmu_core.specs.machine.View.{answer_in, upd, view, word_in, words_after}
 use Rattle.mmu_core.proofs.invariant.AloneLaws.{lock_free}
 use Rattle.core_views.specs.declared.topics.Hold.{Hold}
