@@ -15,6 +15,7 @@ from dataclasses import dataclass, replace
 
 WRAP = 2**64
 ROOM = 128  # host pages, and guest frames, from one slot's first to the next one's
+RUN = {2: 512, 3: 262144}  # the pages of a run of this level
 
 
 @dataclass(frozen=True)
@@ -41,12 +42,16 @@ class Maker:
         self.words = r.choice([1, 1, 2, 4, 8])
         ids = r.sample(range(32), 8)
         self.fixed, self.moving, self.sharing = ids[:3], ids[3 : 3 + r.randint(0, 3)], ids[6 : 6 + r.choice([0, 2])]
-        self.slots, self.bases, self.hot = {}, {}, {}
+        self.slots, self.bases, self.hot, self.pages = {}, {}, {}, 0
+        self.large = ids[0] if r.random() < 0.4 else None  # this slot has a whole run, which may become large
         for k, i in enumerate(self.fixed + self.moving + self.sharing):
-            pages = r.choice([1, 5, 16, 64, 65, 100, 128])
+            pages = RUN[2] if i == self.large else r.choice([1, 5, 16, 64, 65, 100, 128])
             self.bases[i] = [(2 * k + turn) * ROOM + r.choice([0, 0, 2**12, 2**19, 2**30]) for turn in range(1 if i in self.fixed else 2)]
-            self.slots[i] = Slot(self.bases[i][0], pages, k * ROOM, i not in self.sharing and r.random() < 0.15)
+            if i == self.large:
+                self.bases[i] = [2**33]
+            self.slots[i] = Slot(self.bases[i][0], pages, self.pages, i not in self.sharing and r.random() < 0.15)
             self.hot[i] = [r.randrange(pages) for _ in range(r.randint(1, 4))]
+            self.pages += max(pages, ROOM)
         if self.sharing:
             self.bases[self.sharing[1]][0] = self.bases[self.sharing[0]][0]
         self.kinds = defaultdict(lambda: r.choice(["add", "write", "mixed", "own"]))
@@ -54,8 +59,8 @@ class Maker:
         self.managed, self.hosted = r.choice([(0, 0), (0.02, 0.1), (0.1, 0.02), (0.1, 0.1), (0.3, 0.2)])
 
     def header(self):
-        r, pages = self.random, len(self.slots) * ROOM
-        self.firsts = [0] + sorted(r.sample(range(1, pages), self.hosts - 1))
+        r, pages = self.random, self.pages
+        self.firsts = [0] + sorted(r.sample(range(RUN[2] if self.large is not None and r.random() < 0.8 else 1, pages), self.hosts - 1))
         pool = r.choice([64, 100, 1024]) if r.random() < 0.7 else r.randint(4, 20)
         return (
             f"tdp 1 vcpus {self.vcpus} workers {self.workers} pages {pages} frames {pages + r.choice([0, 1, 3, 128, 200])}"
@@ -87,7 +92,14 @@ class Maker:
         change = r.choice(["move", "move", "evict", "evict", "protect", "allow", "allow", "allow"])
         i, page = self.hot_page(self.fixed + self.moving if change == "move" else list(self.slots))
         page += self.slots[i].host
+        if self.large is not None and r.random() < 0.3:
+            change = r.choice(["huge", "huge", "small"])
+            page = r.choice([0, 0, 0, r.randrange(RUN[2]), r.randrange(self.pages)])
+        elif i == self.large and change in ("move", "evict") and r.random() < 0.8:
+            change = "allow"
         owner = sum(first <= page for first in self.firsts) - 1
+        if change == "huge":
+            page = f"{page} {r.choice([2, 2, 2, 2, 3])}"
         return f"h{owner if r.random() < 0.95 else r.randrange(self.hosts)} {change} {page}"
 
     def manager_line(self):
@@ -105,11 +117,18 @@ class Maker:
             return f"vm clear {i} {first} {count}" + "".join(f" 0x{r.getrandbits(64):x}" for _ in range(-(-count // 64)))
         return f"vm {kind} {i if r.random() < 0.95 else r.randrange(32)}"
 
+    def worker_line(self):
+        r = self.random
+        i, page = self.hot_page([self.large, self.large, *self.slots])
+        return f"w{r.randrange(self.workers)} split {r.choice(self.bases[i]) + page}"
+
     def slot_line(self, i, base):
         slot = self.slots[i]
         return f"vm slot {i} {base} {slot.pages} {slot.host}{' ro' if slot.read_only else ''}"
 
     def line(self):
+        if self.large is not None and self.workers and self.random.random() < 0.03:
+            return self.worker_line()
         turn = self.random.random()
         return self.manager_line() if turn < self.managed else self.host_line() if turn < self.managed + self.hosted else self.access()
 
@@ -245,6 +264,9 @@ class Checker:
         self.writable = defaultdict(lambda: {True})  # whether the host allows writes to a page, at each moment from `go` on
         self.touches = defaultdict(list)  # the accesses that reached a word
         self.behind = {}
+        self.large = defaultdict(lambda: 1)  # of which level the host maps a page, after the lines of its thread so far
+        self.allowed = defaultdict(lambda: True)  # whether it allows writes to it, so far
+        self.evicted = set()  # the pages that were evicted at some moment
         self.may_starve = self.is_tight()
 
     def is_tight(self):
@@ -264,6 +286,9 @@ class Checker:
             if line.actor == "vm":
                 slots = self.manager_line(line, slots)
         self.host_lines()
+        for line in self.lines:
+            if line.actor[0] == "w":
+                need(line.answer == ["done"] or line.answer == ["starved"] and self.may_starve, line)
         for line in self.accesses:
             self.access(line)
         self.order_accesses()
@@ -300,7 +325,7 @@ class Checker:
     def host_lines(self):
         firsts = self.sizes["firsts"] + [self.sizes["pages"]]
         lines = [line for line in self.lines if line.actor[0] == "h"]
-        own = {line.number for line in lines if firsts[int(line.actor[1:])] <= number(line.words[1]) < firsts[int(line.actor[1:]) + 1]}
+        own = {line.number for line in lines if self.is_own(line, firsts)}
         moved = {number(line.words[1]) for line in lines if line.number in own and line.words[0] == "move"}
         spare, frame_of = self.sizes["frames"] - self.sizes["pages"], {}
         # Of 128 frames to spare 64 are a word of the map, which so few pages don't fill.
@@ -309,6 +334,11 @@ class Checker:
             change, page = line.words[0], number(line.words[1])
             if line.number not in own:
                 need(line.answer == ["refused", "out-of-range"], f"{line}, and not 'refused out-of-range'")
+            elif change in ("huge", "small"):
+                self.run_line(line, change, page, frame_of)
+            elif self.large[page] > 1:
+                need(line.answer == ["refused", "is-huge"], f"{line}, and not 'refused is-huge'")
+                continue
             elif change == "move" and line.answer == ["refused", "no-frame"]:
                 need(not always, line)
             elif change == "move":
@@ -319,8 +349,37 @@ class Checker:
                 self.frames[page].add(frame)
             else:
                 need(line.answer == ["done"], f"{line}, and not 'done'")
+            if line.number in own and change == "evict":
+                self.evicted.add(page)
             if line.number in own and change in ("protect", "allow"):
+                self.allowed[page] = change == "allow"
                 self.writable[page] = (self.writable[page] if line.below else set()) | {change == "allow"}
+
+    def is_own(self, line, firsts):
+        """Whether the pages that the line names are its thread's: those of the run that it is to make large, or one."""
+        page, end = number(line.words[1]), firsts[int(line.actor[1:]) + 1]
+        last = page + RUN[number(line.words[2])] - 1 if line.words[0] == "huge" else page
+        return firsts[int(line.actor[1:])] <= page and last < end
+
+    def run_line(self, line, change, page, frame_of):
+        """A line that makes a run large, or the pages of one small. Only its thread changes these pages, but that an access
+        brings in those that were evicted: so all else is known from the thread's lines before."""
+        if change == "small":
+            need(line.answer == ["done"], f"{line}, and not 'done'")
+            first, pages = page // RUN.get(self.large[page], 1) * RUN.get(self.large[page], 1), RUN.get(self.large[page], 1)
+            self.large.update({other: 1 for other in range(first, first + pages)})
+            return
+        pages = range(page, page + RUN[number(line.words[2])])
+        first = frame_of.get(page, page)
+        aligned = page % len(pages) == 0 == first % len(pages)
+        alike = all(frame_of.get(other, other) == first + other - page and self.allowed[other] == self.allowed[page] for other in pages)
+        if any(self.large[other] > 1 for other in pages):
+            need(line.answer == ["refused", "is-huge"], f"{line}, and not 'refused is-huge'")
+        elif not (aligned and alike) or self.evicted.intersection(pages) and line.answer != ["done"]:
+            need(line.answer == ["refused", "not-aligned"], f"{line}, and not 'refused not-aligned'")
+        else:
+            need(line.answer == ["done"], f"{line}, and not 'done'")
+            self.large.update({other: number(line.words[2]) for other in pages})
 
     def numbers(self, line, form):
         """The numbers of an answer of this form."""

@@ -8,6 +8,7 @@
 # A trace has 4 to 25 actors, 50 to 3,000 lines below `go`, and every form of line side by side, in pools that are large
 # and small, and in each mode of dirty logs: slots that stay, slots that move, are deleted and are set again, and two that
 # ask for the same guest frames; some words are only added to, some only written, some both, and some are one actor's alone.
+# In two of five a slot has a run of 512 host pages, which a host thread makes large and small again, and workers split.
 #
 # Checked (live.py) is that
 #   - the run ends, within 120 seconds, with status 0
@@ -17,7 +18,7 @@
 #     its word: so no add or write is lost, no number comes from nowhere, and an actor finds what it has written itself
 #   - the words of the last line are what the accesses leave in the slots that the manager's answers leave
 #   - the manager's lines are done or refused as its own answers before say; a line of a host thread that of another thread's
-#     page is refused
+#     page is refused, or of a page that is part of a large one, and a run is made large or refused as its thread's lines say
 #   - `mmio`, `hostfault`, `starved` and `no-frame` come only where some moment allows them, and `frame F` only with a frame
 #     that the page has had
 #   - a log's words have only bits of pages that were asked for and that some line writes
