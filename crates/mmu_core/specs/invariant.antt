@@ -18,5 +18,6 @@ pub mod PoolPart
 pub mod SearchPart
 pub mod RunsPart
 pub mod HeldPart
+pub mod ReachPart
 pub mod Grace
 pub mod Scans

@@ -79,51 +79,58 @@ used_flushed state Guest is none may = ap (λ (b : Bool). b && asks_flush state)
 used_flushed state Outside is none may = asks_none state may
 used_flushed state Section is none may = asks_none state may
 
--- ---- A change of the virtual processor: of its state word, of where it is, of what it has cached.
+-- ---- A change of the virtual processor: of its state word, of where it is, of what is so once it has made its flush.
 
-module _ {own_ : Invalidated} {asked awaited v state : ℕ} {stay : Stay} where
-  -- Where no flush is asked for, none was, where what is cached may be used, it might be before, and what was clean is clean.
-  moved : {now : ℕ} {behind : Stay} {cached kept : List Translation} → (asks_flush now ≡ false → asks_flush state ≡ false)
-      → (may_use now behind ≡ true → may_use state stay ≡ true) → (v < asked → IsClean own_ cached → IsClean own_ kept)
-      → IsFlushed own_ asked awaited v state stay cached → IsFlushed own_ asked awaited v now behind kept
+module _ {asked awaited v state : ℕ} {stay : Stay} where
+  -- Where no flush is asked for, none was, where what is cached may be used, it might be before, and what is so then was so.
+  moved : {now : ℕ} {behind : Stay} {Was Is : Type 0} → (asks_flush now ≡ false → asks_flush state ≡ false)
+      → (may_use now behind ≡ true → may_use state stay ≡ true) → (v < asked → Was → Is)
+      → IsFlushed Was asked awaited v state stay → IsFlushed Is asked awaited v now behind
   moved asks uses keeps F = record {
     order = F.order;
     asks = λ lt none. keeps lt (F.asks lt (asks none));
     awaits = λ lt waits may. keeps lt (F.awaits lt waits (uses may));
   }
 
-  -- Its cache alone.
-  pub cached_more : {cached kept : List Translation} → (v < asked → IsClean own_ cached → IsClean own_ kept)
-      → IsFlushed own_ asked awaited v state stay cached → IsFlushed own_ asked awaited v state stay kept
-  cached_more = moved (λ none. none) (λ may. may)
+  -- What is so then, alone.
+  pub flushed_more : {Was Is : Type 0} → (v < asked → Was → Is) → IsFlushed Was asked awaited v state stay → IsFlushed Is asked awaited v state stay
+  flushed_more = moved (λ none. none) (λ may. may)
+
+  -- And two such things.
+  pub flushed_both : {Was More : Type 0} → IsFlushed Was asked awaited v state stay → IsFlushed More asked awaited v state stay
+      → IsFlushed (Was × More) asked awaited v state stay
+  flushed_both F G = record {
+    order = F.order;
+    asks = λ lt none. (F.asks lt none, G.asks lt none);
+    awaits = λ lt waits may. (F.awaits lt waits may, G.awaits lt waits may);
+  }
 
   -- A flush is asked of it.
-  pub requested : {now : ℕ} {cached : List Translation} → asks_flush now ≡ true
-      → IsFlushed own_ asked awaited v state stay cached → IsFlushed own_ asked awaited v now stay cached
-  requested {now} asks = moved (λ none. absurd (cc (asks, none))) (λ may. used_asked state now stay asks may) (λ lt clean. clean)
+  pub requested : {now : ℕ} {Was : Type 0} → asks_flush now ≡ true → IsFlushed Was asked awaited v state stay → IsFlushed Was asked awaited v now stay
+  requested {now} asks = moved (λ none. absurd (cc (asks, none))) (λ may. used_asked state now stay asks may) (λ lt was. was)
 
   -- It enters the guest, and makes the flush that was asked for.
-  pub entered : (cached : Buffer Translation) → IsFlushed own_ asked awaited v state stay cached.items
-      → IsFlushed own_ asked awaited v guest_bits Guest (flushed_by kind.Enter cached state).items
-  entered cached F = record { order = F.order; asks = λ lt none. clean lt; awaits = λ lt waits may. clean lt }
+  pub entered : {Was Is : Type 0} → (asks_flush state ≡ true → Is) → (v < asked → Was → Is) → IsFlushed Was asked awaited v state stay
+      → IsFlushed Is asked awaited v guest_bits Guest
+  entered {Is = Is} flushes keeps F = record { order = F.order; asks = λ lt none. done lt; awaits = λ lt waits may. done lt }
     where
-      clean : v < asked → IsClean own_ (flushed_by kind.Enter cached state).items
-      clean lt = by (asks_flush state) refl
+      done : v < asked → Is
+      done lt = by (asks_flush state) refl
         where
-          by : (b : Bool) → asks_flush state ≡ b → IsClean own_ (if b then buffer [] cached.capacity else cached).items
-          by true is = All-nil (IsApart own_)
-          by false is = F.asks lt is
+          by : (b : Bool) → asks_flush state ≡ b → Is
+          by true is = flushes is
+          by false is = keeps lt (F.asks lt is)
 
   -- It leaves the guest, or a section; or begins one.
-  pub goes : {now : ℕ} {behind : Stay} {cached : List Translation} → asks_flush now ≡ asks_flush state → may_use now behind ≡ not (asks_flush now)
-      → IsFlushed own_ asked awaited v state stay cached → IsFlushed own_ asked awaited v now behind cached
-  goes {now} {behind} asks gone = moved (λ none. sym asks ∙ none) (used_gone state now stay behind asks gone) (λ lt clean. clean)
+  pub goes : {now : ℕ} {behind : Stay} {Was Is : Type 0} → asks_flush now ≡ asks_flush state → may_use now behind ≡ not (asks_flush now)
+      → (v < asked → Was → Is) → IsFlushed Was asked awaited v state stay → IsFlushed Is asked awaited v now behind
+  goes {now} {behind} asks gone = moved (λ none. sym asks ∙ none) (used_gone state now stay behind asks gone)
 
 -- ---- A change of the invalidation: of how many were asked, and of how many were awaited.
 
-module _ {own_ : Invalidated} {v state : ℕ} {stay : Stay} {cached : List Translation} where
+module _ {IsDone : Type 0} {v state : ℕ} {stay : Stay} where
   -- None was asked yet.
-  pub unasked : (flush : Flush) → flush ≡ no_flush → IsFlushed own_ flush.asked flush.awaited v state stay cached
+  pub unasked : (flush : Flush) → flush ≡ no_flush → IsFlushed IsDone flush.asked flush.awaited v state stay
   unasked flush none =
       let asked : flush.asked ≡ 0 = ap (λ (f : Flush). f.asked) none in
       let awaited : flush.awaited ≡ 0 = ap (λ (f : Flush). f.awaited) none in
@@ -135,29 +142,29 @@ module _ {own_ : Invalidated} {v state : ℕ} {stay : Stay} {cached : List Trans
 
   -- The next one was asked.
   pub asked_on : {asked awaited : ℕ} (index : ℕ) → index ≡ asked → (v ≡ index → asks_flush state ≡ true)
-      → IsFlushed own_ asked awaited v state stay cached → IsFlushed own_ (index + 1) awaited v state stay cached
+      → IsFlushed IsDone asked awaited v state stay → IsFlushed IsDone (index + 1) awaited v state stay
   asked_on {asked} {awaited} index next asks F = record {
     order = omega (arith, F.order, next);
     asks = λ lt none. by lt none (same_or v index);
     awaits = λ lt waits may. F.awaits (omega (arith, waits, F.order)) waits may;
   }
     where
-      by : v < index + 1 → asks_flush state ≡ false → (v ≡ index) ⊎ (v ≢ index) → IsClean own_ cached
+      by : v < index + 1 → asks_flush state ≡ false → (v ≡ index) ⊎ (v ≢ index) → IsDone
       by lt none (inl e) = let is = asks e in absurd (cc (is, none))
       by lt none (inr ne) = F.asks (omega (arith, lt, ne, next)) none
 
   -- The next one was awaited, if it has no flush to make.
   pub awaited_on : {asked awaited : ℕ} (index word : ℕ) → index < asked → index ≡ awaited
-      → (v ≡ index → (state ≡ word) × (state % 4 ≡ stay_bits stay)) → IsFlushed own_ asked awaited v state stay cached
-      → IsFlushed own_ asked (index + (if has_to_flush word then 0 else 1)) v state stay cached
+      → (v ≡ index → (state ≡ word) × (state % 4 ≡ stay_bits stay)) → IsFlushed IsDone asked awaited v state stay
+      → IsFlushed IsDone asked (index + (if has_to_flush word then 0 else 1)) v state stay
   awaited_on {asked} {awaited} index word low next sees F = by (has_to_flush word) refl
     where
-      clean : has_to_flush word ≡ false → v < asked → v < index + 1 → may_use state stay ≡ true → (v ≡ index) ⊎ (v ≢ index) → IsClean own_ cached
-      clean none lt waits may (inl e) =
+      done : has_to_flush word ≡ false → v < asked → v < index + 1 → may_use state stay ≡ true → (v ≡ index) ⊎ (v ≢ index) → IsDone
+      done none lt waits may (inl e) =
           let S = sees e in
           F.asks lt (used_flushed state stay S.1 (ap has_to_flush S.0 ∙ none) may)
-      clean none lt waits may (inr ne) = F.awaits lt (omega (arith, waits, ne, next)) may
+      done none lt waits may (inr ne) = F.awaits lt (omega (arith, waits, ne, next)) may
 
-      by : (b : Bool) → has_to_flush word ≡ b → IsFlushed own_ asked (index + (if b then 0 else 1)) v state stay cached
+      by : (b : Bool) → has_to_flush word ≡ b → IsFlushed IsDone asked (index + (if b then 0 else 1)) v state stay
       by true has = record { order = omega (arith, low); asks = F.asks; awaits = λ lt waits may. F.awaits lt (omega (arith, waits, next)) may }
-      by false none = record { order = omega (arith, low); asks = F.asks; awaits = λ lt waits may. clean none lt waits may (same_or v index) }
+      by false none = record { order = omega (arith, low); asks = F.asks; awaits = λ lt waits may. done none lt waits may (same_or v index) }

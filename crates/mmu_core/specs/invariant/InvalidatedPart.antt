@@ -122,16 +122,19 @@ pub record UsablePart (n vcpus : ℕ) (states pool host : ℕ → ℕ) (set : �
   pub agrees : (v : ℕ) → v < vcpus → may_use (states v) (hand v).topics.stay ≡ true → AgreePart pool host set (hand v).cached.items
   pub others : (i : ℕ) → i < n → vcpus ≤ i → (hand i).cached.items ≡ []
 
--- A virtual processor that was asked for a flush since has made it, or is yet to; and once it was awaited it may use nothing of the frames. No more
--- are awaited than were asked.
-pub record IsFlushed (own_ : Invalidated) (asked awaited v state : ℕ) (stay : Stay) (cached : List Translation) : Type 0 where
+-- A virtual processor that was asked for a flush since has made it, or is yet to; and once it was awaited it may use nothing of the frames: `IsDone` says what
+-- is so then. No more are awaited than were asked.
+pub record IsFlushed (IsDone : Type 0) (asked awaited v state : ℕ) (stay : Stay) : Type 0 where
   pub order : awaited ≤ asked
-  pub asks : v < asked → asks_flush state ≡ false → IsClean own_ cached
-  pub awaits : v < asked → v < awaited → may_use state stay ≡ true → IsClean own_ cached
+  pub asks : v < asked → asks_flush state ≡ false → IsDone
+  pub awaits : v < asked → v < awaited → may_use state stay ≡ true → IsDone
 
 -- So are all, for each open invalidation; for a slot's, up to the publication.
+abbrev pub FlushesFor : (Invalidated → ℕ → Type 0) → ℕ → ℕ → (ℕ → ℕ) → (ℕ → Topics) → Type 0
+FlushesFor IsDone n vcpus states topics =
+    (i v : ℕ) → i < n → v < vcpus → keeps_empty (topics i) ≡ true
+    → IsFlushed (IsDone (topics i).invalidations.own v) (topics i).flush.asked (topics i).flush.awaited v (states v) (topics v).stay
+
+-- Then nothing cached is of the frames.
 abbrev pub FlushPart : ℕ → ℕ → (ℕ → ℕ) → (ℕ → Held) → Type 0
-FlushPart n vcpus states hand =
-    (i v : ℕ) → i < n → v < vcpus → keeps_empty (hand i).topics ≡ true
-    → IsFlushed (hand i).topics.invalidations.own (hand i).topics.flush.asked (hand i).topics.flush.awaited v (states v) (hand v).topics.stay
-    (hand v).cached.items
+FlushPart n vcpus states hand = FlushesFor (λ own_ v. IsClean own_ (hand v).cached.items) n vcpus states (λ i. (hand i).topics)
