@@ -10,8 +10,8 @@ use Rattle.mmu_core.specs.machine.Machine.{Step, World, effect, hand_in, run}
 use Rattle.mmu_core.specs.machine.Sums.{one_if, sum_below}
 use Rattle.mmu_core.specs.machine.Turns.{line_of}
 use Rattle.mmu_core.proofs.lines.StepsFew.{most_apart}
-use Rattle.core_theorem.specs.Turns.{AllStepsAreFew, begins_line, bound_of, bound_under_way, bounds_of, changes_run, delays_line, how_many, in_runs, is_under_way}
-use Rattle.core_theorem.specs.Turns.{lines_under_way, more_of_runs, most_of_all, runs_under_way}
+use Rattle.core_theorem.specs.Turns.{AllStepsAreFew, begins_line, bound_of, bound_under_way, bounds_of, changes_run, delays_line, how_many, in_runs}
+use Rattle.core_theorem.specs.Turns.{is_under_way, lines_under_way, more_of_runs, most_of_all, runs_under_way}
 use Rattle.core_theorem.proofs.Turns.{steps_are_few}
 
 -- So many for each, and so many more for each that changes a run.

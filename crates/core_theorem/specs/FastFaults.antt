@@ -75,4 +75,5 @@ OtherFastFaultsSawWhy = AfterEveryRun (λ z w.
     (actor : ℕ) → actor < actors_of z
     → (gfn word : ℕ) (op : Op) (entry : ℕ) → (hand_in mmu w actor).state.place ≡ place.Access (Fault (End (NotFast entry)))
     → (hand_in mmu w actor).state.line.command ≡ Access gfn word op
-    → ((entry ≡ 0) × IsSearchedInVain gfn (hand_in mmu w actor).topics.search) ⊎ SawNothingToAllow entry gfn (hand_in mmu w actor).topics.search (walk_in w actor))
+    → ((entry ≡ 0) × IsSearchedInVain gfn (hand_in mmu w actor).topics.search)
+    ⊎ SawNothingToAllow entry gfn (hand_in mmu w actor).topics.search (walk_in w actor))

@@ -31,8 +31,8 @@ pub record SawUnaligned (notes : Notes) (page : ℕ) (change : RunChange) : Type
   pub saw : SawRun notes page change seen
   pub refused : run_refusal seen page change ≡ Some NotAligned
 
--- The line is one of the run's owner, and has something to do; it looked at each page of the run, each of which has since been brought in at most, and by what it
--- saw isn't refused. It sets the first of them.
+-- The line is one of the run's owner, and has something to do; it looked at each page of the run, each of which has since been brought in at most, and by what
+-- it saw isn't refused. It sets the first of them.
 pub record MaySetRun (z : Sizes) (f : Facts) (actor : Actor) (command : Command) (notes : Notes) (page : ℕ) (entry : HostEntry) : Type 0 where
   pub at : ℕ
   pub change : RunChange

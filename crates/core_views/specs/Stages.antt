@@ -1,4 +1,5 @@
--- How far a line has come: one of a migration, which logs it has yet to read, and what it has yet to copy; and one of a host page, which pages it has yet to set.
+-- How far a line has come: one of a migration, which logs it has yet to read, and what it has yet to copy; and one of a host page, which pages
+-- it has yet to set.
 use Rattle.std.specs.Prelude.{ℕ, zero, suc, ◌+◌, Bool, true, false, List, [], ◌∷◌, Option, Some, None}
 use Rattle.core_views.specs.declared.trace.Command.{Command}
 use Rattle.core_views.specs.declared.trace.Command.TheVariants.{ChangeRun, Migrate}

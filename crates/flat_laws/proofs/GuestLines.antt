@@ -12,8 +12,8 @@ use Rattle.core_views.specs.declared.trace.Command.{Command}
 use Rattle.core_views.specs.declared.trace.Command.TheVariants.{Access, ChangeHost, ChangeRun, Migrate, Split}
 use Rattle.core_views.specs.declared.trace.MigrationCall.TheVariants.{Start, Finish, Resume}
 use Rattle.core_views.specs.Events.{under_after}
-use Rattle.core_views.specs.Flat.{Facts, Idle, Fresh, HasAccessed, HasChanged, HasChangedHost, HasToSet, HasLeft, HasSetPause, HasTaken, HasTakenNext, HasToCopy}
-use Rattle.core_views.specs.Flat.{LineUnderWay, Stage}
+use Rattle.core_views.specs.Flat.{Facts, Idle, Fresh, HasAccessed, HasChanged, HasChangedHost, HasToSet, HasLeft, HasSetPause, HasTaken, HasTakenNext}
+use Rattle.core_views.specs.Flat.{HasToCopy, LineUnderWay, Stage}
 use Rattle.core_views.specs.Lawful.{IsAllowed}
 use Rattle.core_views.specs.LogCommands.{log_read}
 use Rattle.core_views.specs.Past.{Past}

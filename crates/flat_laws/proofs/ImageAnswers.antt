@@ -16,7 +16,8 @@ use Rattle.core_views.specs.declared.trace.Command.TheVariants.{Access, ChangeHo
 use Rattle.core_views.specs.declared.trace.HostChange.TheVariants.{Move}
 use Rattle.core_views.specs.declared.trace.MigrationCall.{MigrationCall}
 use Rattle.core_views.specs.declared.trace.MigrationCall.TheVariants.{Start, Round, Finish, Resume}
-use Rattle.core_views.specs.Flat.{Facts, Fresh, HasAccessed, HasArmed, HasCalled, HasChanged, HasChangedHost, HasToSet, HasLeft, HasRead, HasToCopy, Notes, Stage}
+use Rattle.core_views.specs.Flat.{Facts, Fresh, HasAccessed, HasArmed, HasCalled, HasChanged, HasChangedHost, HasToSet, HasLeft, HasRead, HasToCopy}
+use Rattle.core_views.specs.Flat.{Notes, Stage}
 use Rattle.core_views.specs.HostChanges.{host_answer, host_refusal}
 use Rattle.core_views.specs.HostRuns.{run_at_once}
 use Rattle.core_views.specs.Lawful.{MayLeave, Tells, answer_at_once, answer_unbarred, copied_answer}

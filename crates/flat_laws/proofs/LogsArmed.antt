@@ -92,7 +92,8 @@ none_waits z f past actor u (WordCopied gfn page word value whole) may is =
 none_waits z f past actor u (Answered number answer) may is = none_told z f actor u.line.command u.stage answer may.1
 none_waits z f past actor u (HostChanged page entry) (inl may) is = none_at u.stage Fresh u.line.command may.0 refl
 none_waits z f past actor u (HostChanged page entry) (inr (inl may)) is = none_at u.stage Fresh u.line.command may.0 refl
-none_waits z f past actor u (HostChanged page entry) (inr (inr may)) is = none_at u.stage (HasToSet page (suc may.left) (level_set may.change)) u.line.command may.stands refl
+none_waits z f past actor u (HostChanged page entry) (inr (inr may)) is =
+    none_at u.stage (HasToSet page (suc may.left) (level_set may.change)) u.line.command may.stands refl
 none_waits z f past actor u _ may is = none_at u.stage Fresh u.line.command may.0 refl
 
 -- ---- one event of the manager's

@@ -110,10 +110,12 @@ huge : (z : Sizes) (line : Line) (page : ℕ) (change : HostChange) (f : Facts) 
     → doing z line (ChangeHost page change) f ≡ by line (Exited (Refused IsHuge)) ∷ answers line (Refused IsHuge)
 huge z line page change f notes exact works saw =
     ap (doing_by z line (ChangeHost page change) f) works
-    ∙ ap (λ b. unless_huge line b (changing_host z line page change f)) (size_noted f (ChangeHost page change) notes page saw.entry true exact saw.looked saw.huge)
+    ∙ ap (λ b. unless_huge line b (changing_host z line page change f))
+    (size_noted f (ChangeHost page change) notes page saw.entry true exact saw.looked saw.huge)
 
 -- a clause for each answer with which it may leave
-left : (z : Sizes) (line : Line) (command : Command) (f : Facts) (notes : Notes) (answer : Answer) → AreExact f command notes → FallsAsFlat z f command (Exited answer)
+left : (z : Sizes) (line : Line) (command : Command) (f : Facts) (notes : Notes) (answer : Answer) → AreExact f command notes
+    → FallsAsFlat z f command (Exited answer)
     → MayLeave z f line.actor command notes answer → doing z line command f ≡ by line (Exited answer) ∷ answers line answer
 left z line (Access gfn word op) f notes Paused exact fed may =
     ap (λ b. unless_paused line b (accessing line gfn word op f (page_behind (flat_slots f.slots) gfn op))) (exact.pause true may)
@@ -129,7 +131,8 @@ left z line (ChangeHost page Protect) f notes (Refused IsHuge) exact fed may = h
 left z line (ChangeHost page Allow) f notes (Refused IsHuge) exact fed may = huge z line page Allow f notes exact may.0 may.1
 left z line (ChangeHost page Move) f notes (Refused NoFrame) exact fed may =
     ap (doing_by z line (ChangeHost page Move) f) may.0
-    ∙ (ap (λ b. unless_huge line b (changing_host z line page Move f)) (size_noted f (ChangeHost page Move) notes page may.1.entry false exact may.1.looked may.1.small)
+    ∙ (ap (λ b. unless_huge line b (changing_host z line page Move f))
+    (size_noted f (ChangeHost page Move) notes page may.1.entry false exact may.1.looked may.1.small)
     ∙ ap (moving line page f) fed.1)
 left z line (ChangeHost page Evict) f notes _ exact fed may = absurd may
 left z line (ChangeHost page Protect) f notes _ exact fed may = absurd may

@@ -41,7 +41,8 @@ setting_is_next z f u page entry fresh may =
     ap (λ (p : ℕ). setting_kind p level f) first_is ∙ ap (HostChanged page) (sym may.entry_is) in
     let stage_is : set_one first count level ≡ stage_changed u.line.command f.host u.stage page entry =
     ap (λ (p : ℕ). set_one p count level) first_is
-    ∙ sym (ap (λ (s : Stage). stage_changed u.line.command f.host s page entry) fresh ∙ ap (λ (c : Command). stage_changed c f.host Fresh page entry) may.asked) in
+    ∙ sym (ap (λ (s : Stage). stage_changed u.line.command f.host s page entry) fresh
+    ∙ ap (λ (c : Command). stage_changed c f.host Fresh page entry) may.asked) in
     ap (λ (s : Stage). rest_of z u.line s f) fresh
     ∙ (ap (λ (c : Command). doing z u.line c f) may.asked
     ∙ (ap (doing_by z u.line (ChangeRun at change) f) (works u.line.command may.asked may.works)
@@ -67,7 +68,8 @@ refused_so : (z : Sizes) (line : Line) (page : ℕ) (change : RunChange) (f : Fa
     → doing z line (ChangeRun page change) f ≡ by line (Exited (Refused refusal)) ∷ answers line (Refused refusal)
 refused_so z line page change f refusal works is =
     ap (doing_by z line (ChangeRun page change) f) works
-    ∙ ap (λ (o : Option Refusal). unless_refused line o (setting_run line (run_first change page (f.host page)) (run_count change (f.host page)) (level_set change) f)) is
+    ∙ ap (λ (o : Option Refusal). unless_refused line o
+    (setting_run line (run_first change page (f.host page)) (run_count change (f.host page)) (level_set change) f)) is
 
 pub left_huge : (z : Sizes) (line : Line) (page : ℕ) (change : RunChange) (f : Facts) (command : Command) (notes : Notes) → AreExact f command notes
     → HasWork z f line.actor (ChangeRun page change) → SawHugeOne notes page change

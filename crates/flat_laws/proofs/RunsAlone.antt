@@ -1,5 +1,6 @@
 -- A line that sets a run of host pages and runs alone, from a state in which no line is under way, is lawful, and leaves none under way.
-use Rattle.std.proofs.Common.{◌≡◌, ◌≢◌, ◌+◌, ◌==◌, ◌||◌, inl, inr, ◌++◌, ◌∷◌, [], ℕ, zero, suc, List, Bool, true, false, not, refl, sym, ap, ◌∙◌, subst, arith, cond}
+use Rattle.std.proofs.Common.{◌≡◌, ◌≢◌, ◌+◌, ◌==◌, ◌||◌, inl, inr, ◌++◌, ◌∷◌, [], ℕ, zero, suc, List, Bool, true, false, not, refl, sym, ap, ◌∙◌}
+use Rattle.std.proofs.Common.{subst, arith, cond}
 use Rattle.std.specs.Prelude.{Option, Some, None, if◌then◌else◌}
 use Rattle.std.proofs.lemmas.Bool.{eq-eqb, eqb-true}
 use Rattle.core_views.specs.declared.answer.Answer.TheVariants.{Done, Refused}
@@ -103,7 +104,8 @@ module _ (z : Sizes) (line : Line) (page : ℕ) (change : RunChange) (facts : Fa
       (more z (by line kind) (setting_run line (first + 1) n.0 level (facts_after kind facts)) f
       (allowed z line.actor kind facts _ f at (inr (inl (refl, may))))
       (setting_closes z line page change n.0 (first + 1) (facts_after kind facts) (looked line noted).notes (after (by line kind) f) is
-      (subst (λ (s : Stage). IsAt line.actor (facts_after kind facts) (record { line = line; stage = s; notes = (looked line noted).notes }) (after (by line kind) f))
+      (subst (λ (s : Stage). IsAt line.actor (facts_after kind facts) (record { line = line; stage = s; notes = (looked line noted).notes })
+      (after (by line kind) f))
       stage_is (step line.actor kind facts _ f at))))
 
   -- It is refused.
@@ -169,7 +171,8 @@ module _ (z : Sizes) (line : Line) (page level : ℕ) (facts : Facts) (own : own
       then_ = after (by line (LookedAtHost next)) f
 
       noted_more : (other : ℕ) → IsAmong page (done + 1) other → with_entry next (facts.host next) noted other ≡ Some (facts.host other)
-      noted_more other among = seen_more facts noted next other (λ apart. saw other (let low = among.0 in let high = among.1 in (low, grind (arith, high, there, apart))))
+      noted_more other among =
+          seen_more facts noted next other (λ apart. saw other (let low = among.0 in let high = among.1 in (low, grind (arith, high, there, apart))))
 
       small_more : is_huge (facts.host next) ≡ false → (other : ℕ) → IsAmong page (done + 1) other → is_huge (facts.host other) ≡ false
       small_more here other among = either (next == other) refl
@@ -188,7 +191,8 @@ module _ (z : Sizes) (line : Line) (page level : ℕ) (facts : Facts) (own : own
 
       by_size : (b : Bool) → is_huge (facts.host next) ≡ b
           → (((other : ℕ) → IsAmong page (done + 1) other → with_entry next (facts.host next) noted other ≡ Some (facts.host other))
-          → ((other : ℕ) → IsAmong page (done + 1) other → is_huge (facts.host other) ≡ false) → Closes z (looking_on line facts.host (next + 1) n ++ rest) then_)
+          → ((other : ℕ) → IsAmong page (done + 1) other → is_huge (facts.host other) ≡ false)
+          → Closes z (looking_on line facts.host (next + 1) n ++ rest) then_)
           → Closes z ((if b then [] else looking_on line facts.host (next + 1) n) ++ rest) then_
       by_size true huge later =
           refused_closes z line page (Huge level) facts own is (with_entry next (facts.host next) noted) then_ IsHuge

@@ -170,10 +170,12 @@ covers_target : (target : Target) (z : Sizes) (w : World Held) (a : ℕ) → IsS
     → (hand_in mmu w a).topics.invalidations.opened ≡ true → unchanged ((hand_in mmu w a).topics.invalidations.own.pages) ≡ unchanged (run_of_target target)
     → FramesAre target (hand_in mmu w a).topics.invalidations.own → CoversTarget target z w (hand_in mmu w a).topics.invalidations.own
 covers_target (aim.Page page) z w a sound lt opened of_pages few gfn of_it =
-    (sound.topics.scopes a lt opened (some_begun (hand_in mmu w a).topics.invalidations.own.pages ∙ ap (λ (o : Option PageRun). is_some o) of_pages)).covers page gfn
+    (sound.topics.scopes a lt opened
+    (some_begun (hand_in mmu w a).topics.invalidations.own.pages ∙ ap (λ (o : Option PageRun). is_some o) of_pages)).covers page gfn
     (on_begun page (hand_in mmu w a).topics.invalidations.own.pages (subst (IsOnRun page) (sym of_pages) refl)) of_it
 covers_target (aim.Run run) z w a sound lt opened of_pages few gfn of_it =
-    (sound.topics.scopes a lt opened (some_begun (hand_in mmu w a).topics.invalidations.own.pages ∙ ap (λ (o : Option PageRun). is_some o) of_pages)).covers of_it.0
+    (sound.topics.scopes a lt opened
+    (some_begun (hand_in mmu w a).topics.invalidations.own.pages ∙ ap (λ (o : Option PageRun). is_some o) of_pages)).covers of_it.0
     gfn (on_begun of_it.0 (hand_in mmu w a).topics.invalidations.own.pages (subst (IsOnRun of_it.0) (sym of_pages) of_it.1)) of_it.2
 covers_target (aim.Slot slot) z w a sound lt opened of_page few gfn of_it =
     let start = few.0 in let end_ = few.1 in let low = of_it.0 in let high = of_it.1 in (omega (arith, start, low), omega (arith, end_, high))

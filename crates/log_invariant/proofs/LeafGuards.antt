@@ -16,37 +16,30 @@ use Rattle.log_invariant.proofs.HeldLogs.{IsLoggedNow, SomeLogIsUnwatched, found
 use Rattle.log_invariant.proofs.LeafClaims.{LeavesAre, OfNewWrites, leaves_weaker, part_leaves, touch_leaves}
 use Rattle.log_invariant.proofs.LogsBegun.{AllSetNow, begun_guarded}
 use Rattle.log_invariant.proofs.OpeningSlot.{one_slot, opening_is, opening_over}
-use Rattle.log_invariant.proofs.OwnExcuse.{AllowsAt, PassesAt, PassesOf, change_excuse, passed_there}
-use Rattle.log_invariant.proofs.forms.log.PassedFrames.{topics_made, topics_then}
-use Rattle.log_invariant.proofs.forms.log.LogExcuse.{log_excuse, taken_next}
-use Rattle.log_invariant.proofs.forms.log.ReadingExcuses.{said_next, taken_forbids}
-use Rattle.mmu_core.proofs.forms.log.ReadingPlaces.{IsOfReading, after_reading, reading_is}
-use Rattle.mmu_core.specs.forms.log.Readings.{Reading, reading_at}
+use Rattle.log_invariant.proofs.OwnExcuse.{AllowsAt, PassesAt}
+use Rattle.log_invariant.proofs.StepExcuses.{own_excuse}
+use Rattle.log_invariant.proofs.forms.log.PassedFrames.{topics_made}
+use Rattle.log_invariant.proofs.forms.log.ReadingExcuses.{taken_forbids}
 use Rattle.log_invariant.proofs.StepPlaces.{Makes, StepAt, Touches, of_hand, step_at, takes, takes_bits}
 use Rattle.log_invariant.specs.Excuses.{ExcusesLeaf}
-use Rattle.log_invariant.specs.Forbidding.{ForbidsLater}
 use Rattle.log_invariant.specs.LogInvariant.{LogInvariant}
-use Rattle.log_invariant.specs.forms.log.LogReads.{HasTakenOut, taken_of}
+use Rattle.log_invariant.specs.forms.log.LogReads.{HasTakenOut}
 use Rattle.mmu_core.proofs.held.OwedKept.{mark_owed}
 use Rattle.mmu_core.proofs.invariant.Kept.{makes_at}
 use Rattle.mmu_core.proofs.invariant.QuietKept.{MakesAt}
 use Rattle.mmu_core.proofs.forms.access.AccessParts.{AreSmall}
-use Rattle.mmu_core.proofs.lines.KnowsKept.{step_knows, step_leaves}
 use Rattle.mmu_core.proofs.held.WalkSpans.{one_frame}
 use Rattle.mmu_core.proofs.pages.LeavesOver.{leaf_for}
 use Rattle.mmu_core.proofs.pages.PutLeaves.{run_holds}
-use Rattle.mmu_core.proofs.pages.RunLeaves.{run_has}
+use Rattle.mmu_core.proofs.words.RunPlaces.{run_has}
 use Rattle.mmu_core.proofs.forms.access.LeafKnown.{logged_told}
 use Rattle.mmu_core.proofs.machine.Columns.{same_or, upd_other, upd_same}
 use Rattle.mmu_core.proofs.machine.PartStepping.{is_publish}
 use Rattle.mmu_core.proofs.machine.Stepping.{IsStep}
 use Rattle.mmu_core.specs.invariant.Invariant.{Invariant}
 use Rattle.mmu_core.specs.invariant.TopicsInvariant.{TopicsInvariant}
-use Rattle.mmu_core.specs.lines.Forms.{RetiresPart, first_place, outcome_at, part_at}
-use Rattle.mmu_core.specs.forms.log.LogSteps.{log_next, log_part}
+use Rattle.mmu_core.specs.lines.Forms.{first_place, part_at}
 use Rattle.mmu_core.specs.lines.PartAt.{task_at}
-use Rattle.mmu_core.specs.forms.slot_change.SlotChangeSteps.{slot_change_part}
-use Rattle.mmu_core.specs.machine.Outcomes.{place_after}
 use Rattle.mmu_core.specs.machine.View.{View, answer_in, hand_after, stepped, words_after}
 use Rattle.part_steps.specs.PartHoldings.{FoundSlot, IsOver, MayFix}
 use Rattle.part_steps.specs.RunHoldings.{MapsRun}
@@ -65,7 +58,7 @@ use Rattle.mmu_core.specs.invariant.RunsPart.{IsInRun}
 use Rattle.std.proofs.Common.{◌<◌, ◌≤◌, ◌∙◌, ◌≡◌, ◌≢◌, ◌⊎◌, ap, arith, inl, inr, refl, subst, sym, ℕ}
 use Rattle.std.proofs.lemmas.Bool.{cases_lt}
 use Rattle.std.proofs.lemmas.Bool.Decides.{nat_tests}
-use Rattle.std.specs.Prelude.{◌==◌, Bool, None, Option, Some, false, true}
+use Rattle.std.specs.Prelude.{◌==◌, Bool, Some, false, true}
 use Rattle.mmu_core.proofs.pages.Linked.{walk_linked}
 
 -- What the part of the invariant on leaves says of a view.
@@ -75,55 +68,6 @@ LeavesNow z v = LeavesAre z v.words (AllGuarded z v ExcusesLeaf)
 -- what a hand excuses after a step, or is passed with the step of this place, made by the actor of this hand, with this walk after it
 abbrev pub ExcusedOrPassed : Place → Command → Held → TableWalk → Held → ℕ → Type 0
 ExcusedOrPassed p command before after h gfn = ExcusesLeaf h gfn ⊎ PassesAt p command before after gfn
-
--- The actor's line excuses the guest frame after its step, or has passed it.
-abbrev ExcusesOrPasses : View → ℕ → Line → Command → Place → ℕ → Type 0
-ExcusesOrPasses v a line command p gfn =
-    let x : ℕ = answer_in (task_at p command (v.hand a)) v.words in
-    AllowsAt (place_after (outcome_at p command (v.hand a) x)) command (hand_after line command p (v.hand a) x) gfn
-    ⊎ PassesAt p command (v.hand a) (hand_after line command p (v.hand a) x).topics.walk gfn
-
--- What the reading under way excuses before the step, it excuses after it, or passes it.
-reading_excuse : (z : Sizes) (v : View) (a : ℕ) (line : Line) (command : Command) (p : Place) → IsStep z v a line command p → Invariant z v
-    → MakesAt z v a p command → (gfn : ℕ) (o : Option Reading) → reading_at p command (v.hand a) ≡ o → ForbidsLater (taken_of o (v.hand a)) gfn
-    → ExcusesOrPasses v a line command p gfn
-reading_excuse z v a line command p S I makes gfn None is W = absurd W.0
-reading_excuse z v a line command p S I makes gfn (Some r) is W =
-    by (log_excuse r.command h x g gfn r.place (after_reading line p command h x r is)
-    (ap (λ (t : Topics). t.walk) (topics_then v a line command p (log_part r.place h r.command) there.part (makes _ there.part).needs))
-    (there.knows (step_knows z v a line command p S I)) (has.leaves there.retires_none) (has.opens there.opens_none) W)
-  where
-    h : Held
-    h = v.hand a
-
-    x : ℕ
-    x = answer_in (task_at p command h) v.words
-
-    g : Held
-    g = hand_after line command p h x
-
-    there : IsOfReading p command h r
-    there = reading_is p command h r is
-
-    has : RetiresPart p h.topics
-    has = step_leaves z v a line command p S I
-
-    by : ForbidsLater (taken_next (log_next r.place r.command h x) r.command g) gfn ⊎ PassesOf (Some r) h g.topics.walk gfn
-        → ExcusesOrPasses v a line command p gfn
-    by (inl forbids) = inl (inr (said_next (λ f. ForbidsLater f gfn) p command h x r is g (log_next r.place r.command h x) refl forbids (λ none. none.0)))
-    by (inr passes) = inr (passed_there p command h r g.topics.walk gfn is passes)
-
--- What it excuses before its step, it excuses after it, or passes it.
-own_excuse : (z : Sizes) (v : View) (a : ℕ) (line : Line) (command : Command) (p : Place) → IsStep z v a line command p → Invariant z v
-    → MakesAt z v a p command → (gfn : ℕ) → AllowsAt p command (v.hand a) gfn → ExcusesOrPasses v a line command p gfn
-own_excuse z v a line command (place.SlotChange q) S I makes gfn excuse =
-    change_excuse q command (v.hand a) (answer_in (task_at (place.SlotChange q) command (v.hand a)) v.words) _ gfn (record {
-      slots = refl;
-      sizes = refl;
-      walk = ap (λ (t : Topics). t.walk) (topics_made v a line command (place.SlotChange q) (slot_change_part q (v.hand a) command) refl (makes _ refl).needs);
-    }) excuse
-own_excuse z v a line command p S I makes gfn (inl O) = absurd O.0
-own_excuse z v a line command p S I makes gfn (inr W) = reading_excuse z v a line command p S I makes gfn (reading_at p command (v.hand a)) refl W
 
 module _ (z : Sizes) (v : View) (a : ℕ) (line : Line) (command : Command) (p : Place) (small : AreSmall v) (S : IsStep z v a line command p)
     (I : Invariant z v) (P : TopicsInvariant z v) (G : LogInvariant z v) (all_marked : AllSetNow z (stepped a line command p v)) where

@@ -26,6 +26,7 @@ pub mod OwnExcuse
 pub mod PublishedLogs
 pub mod SetWordsKept
 pub mod StartLogs
+pub mod StepExcuses
 pub mod StepPlaces
 pub mod SweptWrites
 pub mod TranslationsKept

@@ -10,4 +10,5 @@ pub mod PoolBits
 pub mod SlotFields
 pub mod SlotLists
 pub mod SmallSlots
+pub mod RunPlaces
 pub mod RunSpans

@@ -33,7 +33,8 @@ continues_row look row page v =
 -- what was seen once one more page was looked at, which has this word
 abbrev pub looked_on : Option HostLook → HostRow → ℕ → ℕ → HostRow
 looked_on None row page v = row
-looked_on (Some look) row page v = record row { looked = if nat_lt row.looked (level_span 3) then row.looked + 1 else row.looked; alike = continues_row look row page v }
+looked_on (Some look) row page v =
+    record row { looked = if nat_lt row.looked (level_span 3) then row.looked + 1 else row.looked; alike = continues_row look row page v }
 
 -- So many present pages were looked at in a row as the run of a level has, and page and frame of the first one are the first of such a run each.
 abbrev pub makes_run : ℕ → HostLook → HostRow → Bool

@@ -1,5 +1,6 @@
 ghost use Rattle.std.specs.Prelude.{◌≡◌, ℕ, ◌<◌, ◌^◌};
-ghost use Rattle.spte_words.specs.HostWords.{host_word, host_present, host_allows_write, host_level, host_frame, with_frame, with_level, with_writes, with_presence};
+ghost use Rattle.spte_words.specs.HostWords.{host_word, host_present, host_allows_write, host_level, host_frame};
+ghost use Rattle.spte_words.specs.HostWords.{with_frame, with_level, with_writes, with_presence};
 
 use crate::bit::bit_if;
 use std::marker::Model;

@@ -67,7 +67,8 @@ slot_collected : (z : Sizes) (pool : ℕ → ℕ) (t : Topics) → is_some t.sea
 slot_collected z pool t some low P A C alone out run aimed several set held = by (is_some t.search.set) some aimed held
   where
     by : (b : Bool) → b ≡ true
-        → (if is_some t.owned then None else run_of_look t.host (if b then covering (run_searched t) (searched t.search (pool (slot_index (set_held t.search.set) t.search.id t.search.next))) t.row else t.row)) ≡ Some run
+        → (if is_some t.owned then None else run_of_look t.host (if b then covering (run_searched t)
+        (searched t.search (pool (slot_index (set_held t.search.set) t.search.id t.search.next))) t.row else t.row)) ≡ Some run
         → (if b then searched t.search (pool (slot_index (set_held t.search.set) t.search.id t.search.next)) else t.search).set ≡ Some set
         → HasCollected pool set
         (if b then searched t.search (pool (slot_index (set_held t.search.set) t.search.id t.search.next)) else t.search).id run

@@ -126,8 +126,8 @@ module _ (z : Sizes) (pool : ℕ → ℕ) (set : ℕ) (run : PageRun) (from : 2 
 
         from_first : (t : Bool) → nat_lt row.start row.end ≡ t → GivesOne pool set (Some run) (wide true).start
         from_first true e =
-            subst (λ (t : Bool). GivesOne pool set (Some run) (if t then lesser row.start (capped (part_start run slot)) else capped (part_start run slot))) (sym e)
-            (least (is_lesser row.start (capped (part_start run slot))).is)
+            subst (λ (t : Bool). GivesOne pool set (Some run) (if t then lesser row.start (capped (part_start run slot)) else capped (part_start run slot)))
+            (sym e) (least (is_lesser row.start (capped (part_start run slot))).is)
           where
             least : (lesser row.start (capped (part_start run slot)) ≡ row.start)
                 ⊎ (lesser row.start (capped (part_start run slot)) ≡ capped (part_start run slot))
@@ -135,8 +135,8 @@ module _ (z : Sizes) (pool : ℕ → ℕ) (set : ℕ) (run : PageRun) (from : 2 
             least (inl is) = subst (GivesOne pool set (Some run)) (sym is) (C.first (grind (arith, nat_tests)))
             least (inr is) = subst (GivesOne pool set (Some run)) (sym (is ∙ starts)) (P.first id L)
         from_first false e =
-            subst (λ (t : Bool). GivesOne pool set (Some run) (if t then lesser row.start (capped (part_start run slot)) else capped (part_start run slot))) (sym e)
-            (subst (GivesOne pool set (Some run)) (sym starts) (P.first id L))
+            subst (λ (t : Bool). GivesOne pool set (Some run) (if t then lesser row.start (capped (part_start run slot)) else capped (part_start run slot)))
+            (sym e) (subst (GivesOne pool set (Some run)) (sym starts) (P.first id L))
 
         from_last : (greater row.end (capped (part_end run slot)) ≡ row.end) ⊎ (greater row.end (capped (part_end run slot)) ≡ capped (part_end run slot))
             → GivesOne pool set (Some run) (greater row.end (capped (part_end run slot)) - 1)
@@ -157,7 +157,8 @@ module _ (z : Sizes) (pool : ℕ → ℕ) (set : ℕ) (run : PageRun) (from : 2 
 
   -- Where a word after the flags is next, no slot is loaded whole.
   half : (b : Bool) (s : SlotSearch) → s.whole ≡ b → (slot : SlotOf) → (s.whole ≡ true → ⊥) → HasCollected pool set s.id run row
-      → HasCollected pool set s.id run (widened (s.whole && (nat_lt 1 run.level && has_part run slot)) (capped (part_start run slot)) (capped (part_end run slot)) row)
+      → HasCollected pool set s.id run
+      (widened (s.whole && (nat_lt 1 run.level && has_part run slot)) (capped (part_start run slot)) (capped (part_end run slot)) row)
   half true s is slot never C = absurd (never is)
   half false s is slot never C =
       subst (λ (b : Bool). HasCollected pool set s.id run
@@ -175,8 +176,12 @@ module _ (z : Sizes) (pool : ℕ → ℕ) (set : ℕ) (run : PageRun) (from : 2 
       → HasCollected pool set s.id run row → After (searched_at f s (pool (slot_index set s.id f)))
   loaded_next field.Flags s at own low P A C =
       flagged s.id (flags_live (pool (slot_index set s.id field.Flags))) (searched_at field.Flags s (pool (slot_index set s.id field.Flags))).slot refl C
-  loaded_next field.Base s at own low P A C = half s.whole s refl (searched_at field.Base s (pool (slot_index set s.id field.Base))).slot (λ whole. let next = P.before_flags whole in cc (next, at)) C
-  loaded_next field.Pages s at own low P A C = half s.whole s refl (searched_at field.Pages s (pool (slot_index set s.id field.Pages))).slot (λ whole. let next = P.before_flags whole in cc (next, at)) C
+  loaded_next field.Base s at own low P A C =
+      half s.whole s refl (searched_at field.Base s (pool (slot_index set s.id field.Base))).slot
+      (λ whole. let next = P.before_flags whole in cc (next, at)) C
+  loaded_next field.Pages s at own low P A C =
+      half s.whole s refl (searched_at field.Pages s (pool (slot_index set s.id field.Pages))).slot
+      (λ whole. let next = P.before_flags whole in cc (next, at)) C
   loaded_next field.Host s at own low P A C =
       let W = ((searched_part field.Host pool set s at own low P).whole set own refl).1 in
       let same : s.id + 1 - 1 ≡ s.id = omega arith in

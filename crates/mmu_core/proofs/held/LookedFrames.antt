@@ -180,7 +180,8 @@ change_looked z v a note new_ S I =
 -- A page of a run that is changed keeps its frame.
 next_looked : (z : Sizes) (v : View) (a note : ℕ) → LookedAfter z v a note part.ChangeNext
 next_looked z v a note S I =
-    subst (λ (h : ℕ → ℕ). LookedFramesPart z (actors_of z) h (λ i. ((part_behind a part.ChangeNext note v).hand i).topics)) (sym (next_words_behind z v a S I note))
+    subst (λ (h : ℕ → ℕ). LookedFramesPart z (actors_of z) h (λ i. ((part_behind a part.ChangeNext note v).hand i).topics))
+    (sym (next_words_behind z v a S I note))
     (λ i k lt e. named (looked_same z v a _ I (λ k e. absurd (cc e)) refl refl i k lt e))
   where
     host : ℕ → ℕ

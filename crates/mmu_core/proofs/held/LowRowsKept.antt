@@ -42,7 +42,8 @@ either_low false x y most one other = other
 part_low : (run : PageRun) (slot : SlotOf) → slot.base + slot.pages ≤ 2 ^ 36 → has_part run slot ≡ true
     → (capped (part_start run slot) ≤ 2 ^ 36) × (capped (part_end run slot) ≤ 2 ^ 36)
 part_low run slot small has =
-    let e : nat_lt (run_start run - slot.host) slot.pages ≡ true = (both (nat_lt slot.host (run_end run)) (nat_lt (run_start run - slot.host) slot.pages) has).1 in
+    let e : nat_lt (run_start run - slot.host) slot.pages ≡ true =
+    (both (nat_lt slot.host (run_end run)) (nat_lt (run_start run - slot.host) slot.pages) has).1 in
     let within : run_start run - slot.host < slot.pages = nat_within (run_start run - slot.host) slot.pages e in
     let le = (is_lesser (run_end run - slot.host) slot.pages).second in
     let one = capped_low (part_start run slot) (omega (arith, within, small)) in
@@ -78,7 +79,8 @@ covering_low (Some run) s row small R = by s.whole refl
         widened_low run s.slot row (s.whole && (nat_lt 1 run.level && has_part run s.slot)) (small e)
         (λ is. (both (nat_lt 1 run.level) (has_part run s.slot) (both s.whole _ is).1).1) R
     by false e =
-        subst (λ (b : Bool). IsLowRow (widened (b && (nat_lt 1 run.level && has_part run s.slot)) (capped (part_start run s.slot)) (capped (part_end run s.slot)) row))
+        subst (λ (b : Bool). IsLowRow (widened (b && (nat_lt 1 run.level && has_part run s.slot))
+        (capped (part_start run s.slot)) (capped (part_end run s.slot)) row))
         (sym e) (record { start = R.start; end_ = R.end_ })
 
 -- ---- after each step

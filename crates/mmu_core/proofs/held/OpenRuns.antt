@@ -108,7 +108,8 @@ module _ (z : Sizes) (v : View) (a count : ℕ) (S : IsPart z v a (part.SetCount
       subst (λ (r : PageRun). page / level_span r.level ≡ r.first / level_span r.level) (several_told several) on
 
   itself : (several : 1 < level_looked look t.row) → owns_page z a look.page ≡ true
-  itself several = opened_owns look.page (subst (λ (r : PageRun). look.page / level_span r.level ≡ r.first / level_span r.level) (sym (several_told several)) refl)
+  itself several =
+      opened_owns look.page (subst (λ (r : PageRun). look.page / level_span r.level ≡ r.first / level_span r.level) (sym (several_told several)) refl)
 
   of_large : 1 < host_level look.word → level_looked look t.row ≡ host_level look.word → IsOpened
   of_large more level = of_several (several_told several) bounds words (λ one. absurd (omega (arith, one, more)))
@@ -146,7 +147,8 @@ module _ (z : Sizes) (v : View) (a count : ℕ) (S : IsPart z v a (part.SetCount
           let at = subst (λ l. page / level_span l ≡ look.page / level_span l) told (on_told page several on) in
           let R = row_word z host a level page look t.row (omega (arith, from)) (omega (arith, to)) W own_row at (opened_owns page on) in (
             R.2,
-            (let same : host_level (host page) ≡ host_level look.word = ap host_level R.1 ∙ further_level look.word R.0 in omega (arith, same, small, told, from)),
+            (let same : host_level (host page) ≡ host_level look.word = ap host_level R.1 ∙ further_level look.word R.0 in
+                omega (arith, same, small, told, from)),
             λ _. ap host_present R.1 ∙ (further_present look.word R.0 ∙ W.present),
           )
 
@@ -162,7 +164,8 @@ module _ (z : Sizes) (v : View) (a count : ℕ) (S : IsPart z v a (part.SetCount
     where
       single : run ≡ run_of look.page
       single =
-          found.2 ∙ ap (λ (b : Bool). if b then record { first = look.page; level = level_looked look t.row; word = look.word; changed = 0 } else run_of look.page)
+          found.2
+          ∙ ap (λ (b : Bool). if b then record { first = look.page; level = level_looked look t.row; word = look.word; changed = 0 } else run_of look.page)
           (let test : nat_lt 1 (level_looked look t.row) ≡ false = grind (arith, nat_tests) in test)
 
       most : (page : ℕ) → IsOnRun page (Some run) → host_level (host page) ≤ 1

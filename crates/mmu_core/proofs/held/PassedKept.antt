@@ -164,7 +164,8 @@ own_passed : (z : Sizes) (v : View) (a note : ℕ) (step : PartStep) → IsPart 
 own_passed z v a note part.Slots S I = λ alone out single set held id slot L lt. absurd (omega (arith, lt))
 own_passed z v a note part.Slot S I =
     slot_passed (v.words area.Pool) (v.hand a).topics (topics_now v a note part.Slot).row
-    (slot_aim (is_some (v.hand a).topics.search.set) (run_searched (v.hand a).topics) (searched (v.hand a).topics.search (answer_in (part_task part.Slot a (v.hand a).topics note) v.words))
+    (slot_aim (is_some (v.hand a).topics.search.set) (run_searched (v.hand a).topics)
+    (searched (v.hand a).topics.search (answer_in (part_task part.Slot a (v.hand a).topics note) v.words))
     (v.hand a).topics.row (v.hand a).topics.host)
     S.needs.0 S.needs.1 S.needs.2 (I.searches a S.there) (I.passed a S.there)
 own_passed z v a note step S I = passed_before z v a note step refl S I

@@ -28,7 +28,8 @@ aimed_look false (Some look) row run is = (look, refl, sym (cc is))
 
 pub data LevelLooked (look : HostLook) (row : HostRow) : Type 0 where
   Large : 1 < host_level look.word → level_looked look row ≡ host_level look.word → LevelLooked look row
-  Several : (level : ℕ) → 2 ≤ level → level ≤ 3 → host_level look.word ≤ 1 → makes_run level look row ≡ true → level_looked look row ≡ level → LevelLooked look row
+  Several : (level : ℕ) → 2 ≤ level → level ≤ 3 → host_level look.word ≤ 1 → makes_run level look row ≡ true
+      → level_looked look row ≡ level → LevelLooked look row
   One : host_level look.word ≤ 1 → level_looked look row ≡ 1 → LevelLooked look row
 
 pub level_told : (look : HostLook) (row : HostRow) → LevelLooked look row

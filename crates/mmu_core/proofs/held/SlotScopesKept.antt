@@ -46,7 +46,8 @@ slots_behind z v a note step S I =
         T.replaces.of_slot (opened_by z v a I T.there (v.hand a).topics.invalidations.opened count refl T.needs.0.is more) of_none
     own part.Publish T is = λ of_none unretired. absurd (cc unretired)
     own part.ChangeNext T is = λ of_none unretired.
-        absurd (changed_none (v.words area.Host (page_to_change (v.hand a).topics.invalidations.own.pages) == word_next (v.hand a).topics.invalidations.own.pages)
+        absurd (changed_none (v.words area.Host (page_to_change (v.hand a).topics.invalidations.own.pages)
+        == word_next (v.hand a).topics.invalidations.own.pages)
         (v.hand a).topics.invalidations.own.pages T.needs.is of_none)
     own part.GiveOld T is = absurd (let closed = T.needs.closed in cc (is, closed))
     own part.Give T is = λ of_none unretired.

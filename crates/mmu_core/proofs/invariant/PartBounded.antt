@@ -130,6 +130,7 @@ part_rests_at z v i I P there = record {
         seen_fits : (run : PageRun) → run.level ≤ 3 → (page : ℕ) (b : Bool) → host_frame (if b then word_given run page else word_seen run page) < z.frames
             → host_frame (word_seen run page) < z.frames
         seen_fits run run_most page true fits =
-            subst (λ f. f < z.frames) (host_has_frame (host_frame (word_seen run page)) (host_present (word_seen run page)) (host_allows_write (word_seen run page))
+            subst (λ f. f < z.frames)
+            (host_has_frame (host_frame (word_seen run page)) (host_present (word_seen run page)) (host_allows_write (word_seen run page))
             (level_put run) (put_low run run_most)) fits
         seen_fits run run_most page false fits = fits

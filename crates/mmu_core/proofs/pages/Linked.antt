@@ -28,7 +28,6 @@ pub top_linked : (z : Sizes) (v : View) (I : TopicsInvariant z v) (i : ℕ) → 
 top_linked z v I i lt from = all_reached I.tree _ _ (top_stands I.tree (v.hand i).topics (I.held i lt) (I.paths i lt) from)
 
 -- And each table that the walk has gone through.
--- And each table that the walk has gone through.
 pub path_linked : (z : Sizes) (v : View) (I : TopicsInvariant z v) (i level : ℕ) → i < actors_of z → 1 ≤ (v.hand i).topics.walk.level
     → (v.hand i).topics.walk.level < level → level ≤ 4 → HangsBelow I.up (v.words area.Root 0) (table_at level (v.hand i).topics.walk)
 path_linked z v I i level lt from above most = all_reached I.tree _ _ (I.paths i lt level from above most)

@@ -94,7 +94,8 @@ module _ {pages root : ℕ} {role pool : ℕ → ℕ} {up : ℕ → Use} {spot :
   -- Where a linked table over the guest frame has an entry that is no link, no linked one over it stands below.
   none_lower : (k l gfn level lower : ℕ) → HangsBelow up root k → HangsBelow up root l → stands up spot k ≡ Some (over_frame level gfn)
       → stands up spot l ≡ Some (over_frame lower gfn) → lower < level → IsEnd level (pool (pool_index k (entry_index gfn level))) → ⊥
-  none_lower k l gfn level lower R Q at_k at_l lt ends = ends L.page (omega (arith, lt, least)) (ap (λ m. pool (pool_index m (entry_index gfn level))) one ∙ L.link)
+  none_lower k l gfn level lower R Q at_k at_l lt ends =
+      ends L.page (omega (arith, lt, least)) (ap (λ m. pool (pool_index m (entry_index gfn level))) one ∙ L.link)
     where
       least : 1 ≤ lower
       least = (T.there l (over_frame lower gfn) at_l).1
@@ -110,7 +111,8 @@ module _ {pages root : ℕ} {role pool : ℕ → ℕ} {up : ℕ → Use} {spot :
 
   -- Over a guest frame one entry at most of linked tables is no link.
   pub one_end : (k l gfn level other : ℕ) → HangsBelow up root k → HangsBelow up root l → stands up spot k ≡ Some (over_frame level gfn)
-      → stands up spot l ≡ Some (over_frame other gfn) → IsEnd level (pool (pool_index k (entry_index gfn level))) → IsEnd other (pool (pool_index l (entry_index gfn other))) → (level ≡ other) × (k ≡ l)
+      → stands up spot l ≡ Some (over_frame other gfn) → IsEnd level (pool (pool_index k (entry_index gfn level)))
+      → IsEnd other (pool (pool_index l (entry_index gfn other))) → (level ≡ other) × (k ≡ l)
   one_end k l gfn level other R Q at_k at_l ends too = by (cases_lt level other) (cases_lt other level)
     where
       by : (level < other) ⊎ (other ≤ level) → (other < level) ⊎ (level ≤ other) → (level ≡ other) × (k ≡ l)

@@ -33,7 +33,8 @@ pub retired_is : (step : PartStep) (z : Sizes) (own : ℕ) (t : Topics) (note v 
     → (topics_after z (kind_of_task z (part_task step own t note)) t v).retired ≡ retired_behind step t v
 unfolding topics_after
 retired_is part.Publish z own t note v = refl
-retired_is (part.Change new_) z own t note v = either_change (is_several t.invalidations.own.pages) z (kind_of_task z (part_task (part.Change new_) own t note)) t v
+retired_is (part.Change new_) z own t note v =
+    either_change (is_several t.invalidations.own.pages) z (kind_of_task z (part_task (part.Change new_) own t note)) t v
 retired_is part.ChangeNext z own t note v = either_change (is_several t.invalidations.own.pages) z (kind_of_task z (part_task part.ChangeNext own t note)) t v
 retired_is _ z own t note v = refl
 

@@ -23,7 +23,8 @@ use Rattle.mmu_core.specs.invariant.TopicsInvariant.{TopicsInvariant}
 use Rattle.mmu_core.specs.machine.View.{View}
 use Rattle.mmu_core.proofs.held.FreshFrames.{looked_word}
 use Rattle.mmu_core.proofs.machine.PartStepping.{IsPart}
-use Rattle.mmu_core.proofs.pages.RunLeaves.{between, none_meets, run_has, run_leaf}
+use Rattle.mmu_core.proofs.pages.RunLeaves.{none_meets, run_leaf}
+use Rattle.mmu_core.proofs.words.RunPlaces.{between, run_has}
 
 -- A guest frame of the slot is a run of its own.
 one_run : (level gfn : ℕ) (slot : SlotOf) → level ≡ 1 → contains gfn slot ≡ true → HasRun level gfn slot

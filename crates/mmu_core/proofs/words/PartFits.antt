@@ -138,7 +138,8 @@ part_within_by (part.Change new_) h note N R = looked_there h N.0.looked R
 part_within_by (part.HostOn page) h note N R = N.0
 part_within_by part.ChangeNext h note N R =
     let C = R.changing N.run N.opened N.unraised N.is N.several in
-    subst (λ (pages : Option PageRun). page_to_change pages < h.state.sizes.pages) (sym N.is) (C.there (page_next N.run) (next_of N.run C.most N.several N.left))
+    subst (λ (pages : Option PageRun). page_to_change pages < h.state.sizes.pages) (sym N.is)
+    (C.there (page_next N.run) (next_of N.run C.most N.several N.left))
 part_within_by (part.FrameMap word) h note N R = N.1
 part_within_by part.Frame h note N R = N.2
 part_within_by (part.Copy index) h note N R = copied_within h index R N

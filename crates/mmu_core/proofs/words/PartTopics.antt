@@ -19,8 +19,8 @@ use Rattle.part_steps.specs.declared.task.Task.{Task}
 use Rattle.mmu_core.specs.forms.access.Cached.{flushed}
 use Rattle.part_steps.specs.declared.part_step.PartStep.{PartStep}
 use Rattle.part_steps.specs.declared.part_step.PartStep.TheVariants as part
-use Rattle.part_steps.specs.PartTasks.{changes_next, entry_index, entry_task, leaf_written, link_written, part_task, table_page, word_looked, word_next, page_looked}
-use Rattle.part_steps.specs.PartTasks.{page_retired, page_owned, words_filled, leaf_fixed}
+use Rattle.part_steps.specs.PartTasks.{changes_next, entry_index, entry_task, leaf_written, link_written, part_task, table_page, word_looked, word_next}
+use Rattle.part_steps.specs.PartTasks.{page_looked, page_retired, page_owned, words_filled, leaf_fixed}
 use Rattle.part_steps.specs.PartSteps.{PartNeeds}
 use Rattle.part_steps.specs.PartTopics.{changed_host, exchanged, part_topics, exchanged_host}
 use Rattle.mmu_core.specs.machine.Steps.{idle_after}

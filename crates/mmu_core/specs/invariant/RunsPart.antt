@@ -61,8 +61,8 @@ ChangesPart n host topics =
     (i : ℕ) (run : PageRun) → i < n → (topics i).invalidations.opened ≡ true → (topics i).invalidations.raised ≡ false
     → (topics i).invalidations.own.pages ≡ Some run → 2 ≤ run.level → IsChanging host run
 
--- What an owner has seen of pages in a row is so still: those that it looked at have their words. A large page that it looked at was present; and the pages that
--- the host maps as one with it are its own.
+-- What an owner has seen of pages in a row is so still: those that it looked at have their words. A large page that it looked at was present; and the pages
+-- that the host maps as one with it are its own.
 pub record IsOwnRow (z : Sizes) (host : ℕ → ℕ) (i : ℕ) (look : HostLook) (row : HostRow) : Type 0 where
   pub words : row.alike ≡ true → host_present look.word ≡ true → (k : ℕ) → k < row.looked → owns_page z i (look.page + k) ≡ true
       → host (look.page + k) ≡ look.word + 4096 * k

@@ -109,7 +109,8 @@ access_mild _ h gfn word op v = tt
 
 pub host_mild : (p : HostPlace) (page : ℕ) (change : HostChange) (h : Held) (v : ℕ) → AreMild (host_tells p page change h v)
 host_mild (host_at.Look moving) page change h v =
-    either_place AreMild (is_own h.state.sizes h.state.actor page) (LookedAtHost page ∷ exiting (after_look moving v)) [] (tt, exit_mild (after_look moving v)) tt
+    either_place AreMild (is_own h.state.sizes h.state.actor page) (LookedAtHost page ∷ exiting (after_look moving v)) []
+    (tt, exit_mild (after_look moving v)) tt
 host_mild (host_at.Claim begun) page change h v = exit_mild (host_outcome (host_at.Claim begun) page h v)
 host_mild host_at.Change page change h v =
     either_place AreMild (v == word_looked h.topics.host) (HostChanged page (entry_of (word_put change h.topics)) ∷ []) [] (tt, tt) tt

@@ -106,7 +106,8 @@ change_quiet _ h command v quiet = tt
 
 host_quiet : (p : HostPlace) (page : ℕ) (change : HostChange) (h : Held) (v : ℕ) → AreQuiet (host_tells p page change h v)
 host_quiet (host_at.Look moving) page change h v =
-    either_place AreQuiet (is_own h.state.sizes h.state.actor page) (LookedAtHost page ∷ exiting (after_look moving v)) [] (tt, exit_quiet (after_look moving v)) tt
+    either_place AreQuiet (is_own h.state.sizes h.state.actor page) (LookedAtHost page ∷ exiting (after_look moving v)) []
+    (tt, exit_quiet (after_look moving v)) tt
 host_quiet (host_at.Claim begun) page change h v = exit_quiet (host_outcome (host_at.Claim begun) page h v)
 host_quiet host_at.Change page change h v =
     either_place AreQuiet (v == word_looked h.topics.host) (HostChanged page (entry_of (word_put change h.topics)) ∷ []) [] (tt, tt) tt

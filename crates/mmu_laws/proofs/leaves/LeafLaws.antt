@@ -152,7 +152,8 @@ module _ {pages root : ℕ} {role pool : ℕ → ℕ} {up : ℕ → Use} {spot :
     R,
   )
   end_table (suc level) page R at_page (inr down) =
-      end_table level down.0 (link_below T few gfn (suc level) _ page down.0 R at_page down.1) (one_below T few gfn (suc level) page down.0 at_page down.1 ∙ ap (λ n. Some (over_frame n gfn)) (omega arith)) down.2
+      end_table level down.0 (link_below T few gfn (suc level) _ page down.0 R at_page down.1)
+      (one_below T few gfn (suc level) page down.0 at_page down.1 ∙ ap (λ n. Some (over_frame n gfn)) (omega arith)) down.2
 
   pub from_root : gfn < 2 ^ 36 → LeadsTo pool 4 root gfn low entry
       → (k : ℕ) × (stands up spot k ≡ Some (over_frame low gfn)) × (pool (pool_index k (entry_index gfn low)) ≡ entry) × HangsBelow up root k
@@ -201,8 +202,8 @@ held_leaves_agree z w actor gfn low entry sound lt over leads leaf =
     let walk : TableWalk = (hand_in mmu w actor).topics.walk in
     let at_page : stands sound.topics.up sound.topics.spot (table_page walk) ≡ Some (at walk.level (gfn / level_span walk.level / 512)) =
     (sound.topics.held actor lt).table over.there ∙ ap (λ n. Some (at walk.level n)) (sym over.span) in
-    leaves_agree z w gfn low entry sound over.small ((leads_linked z w gfn (table_page walk) walk.level low entry sound (walk_linked z (view z w) sound.topics actor lt over.there) at_page).above
-    leads) leaf
+    leaves_agree z w gfn low entry sound over.small
+    ((leads_linked z w gfn (table_page walk) walk.level low entry sound (walk_linked z (view z w) sound.topics actor lt over.there) at_page).above leads) leaf
 
 -- ---- what is cached and used
 

@@ -76,7 +76,8 @@ still_named : (z : Sizes) (u : World Held) (a frame : ℕ) → IsSound z u → a
     → IsNamed z.pages (word_in z u area.Host) frame
 still_named z u a frame G lt H still =
     given_named z u walk.level H.gfn walk.entry frame (as_seen still (leaf_for z (view z u) G.topics (table_page walk) walk.level walk.prefix walk.index H.gfn
-    (walk_linked z (view z u) G.topics a lt H.from) ((G.topics.held a lt).table H.from) H.loaded H.over (still_leaf walk.level found walk.entry still H.leaf))) H.of_frame
+    (walk_linked z (view z u) G.topics a lt H.from) ((G.topics.held a lt).table H.from) H.loaded H.over
+    (still_leaf walk.level found walk.entry still H.leaf))) H.of_frame
   where
     walk : TableWalk
     walk = (hand_in mmu u a).topics.walk

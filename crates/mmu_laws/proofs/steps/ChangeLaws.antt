@@ -71,7 +71,8 @@ module _ (z : Sizes) (w : World Held) (s : Step Kind) (G : IsSound z w) (may : M
       record {
         page = page_next N.run;
         on = word_on z w s G may part.ChangeNext M ∙ ap (λ (pages : Option PageRun). place_of (map_of z) area.Host (page_to_change pages)) N.is;
-        own_ = setter_owns (setter_is_host z (line_of h).actor (line_of h).command L.takes_.is_step.allowed (next_is_runs (place_at h.state.place h) (line_of h).command h L.at))
+        own_ = setter_owns (setter_is_host z (line_of h).actor (line_of h).command L.takes_.is_step.allowed
+            (next_is_runs (place_at h.state.place h) (line_of h).command h L.at))
             (own_.owns (page_next N.run) on);
         opened = N.opened;
         unraised = N.unraised;
@@ -91,8 +92,8 @@ module _ (z : Sizes) (w : World Held) (s : Step Kind) (G : IsSound z w) (may : M
           let index : index_of z (Host T.0) ≡ s.actor = ap (index_of z) (sym actor) ∙ (G.holds.lines s.actor (in_machine z w s G may)).index in
           ap (λ (x : Actor). is_own z x (page_next M.needs.run)) actor ∙ thread_owns z s.actor (page_next M.needs.run) T.0 index owns
 
-  changing : (step : PartStep) (M : Makes h s step) → (needs_line step ≡ true → TakesStep z w s G may step) → (part_task step (own_index h) t M.note).kind ≡ kind.Change
-      → ChangesOwnPage z w s
+  changing : (step : PartStep) (M : Makes h s step) → (needs_line step ≡ true → TakesStep z w s G may step)
+      → (part_task step (own_index h) t M.note).kind ≡ kind.Change → ChangesOwnPage z w s
   changing (part.Change new_) M L is = changes_page new_ M
   changing part.ChangeNext M L is = changes_next M (L refl)
   changing (part.Fill value) M L is = absurd (cc is)

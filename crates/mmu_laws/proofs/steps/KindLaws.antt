@@ -103,7 +103,8 @@ module _ (z : Sizes) (w : World Held) (s : Step Kind) (G : IsSound z w) (may : M
     of_line = λ needs. record { takes_ = T; at = at };
   }
   by_part k other named T makes None at is =
-      let touch = touched stood command h at in absurd (other touch.0 touch.1 (ap (λ (x : Task). x.kind) (sym touch.2) ∙ of_kind k (touch_at command h) is named))
+      let touch = touched stood command h at in
+      absurd (other touch.0 touch.1 (ap (λ (x : Task). x.kind) (sym touch.2) ∙ of_kind k (touch_at command h) is named))
 
   pub made : (k : StepKind) → IsOfPart k → kind_named s.kind.code ≡ k → Made k
   made k other named = by (takes z w s G may)

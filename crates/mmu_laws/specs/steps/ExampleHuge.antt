@@ -44,9 +44,9 @@ aside_line = record { number = 6; actor = Host 0; command = ChangeRun 1 (Huge 2)
 abbrev pub huge_lines : List Line
 huge_lines = slot_line ∷ huge_line ∷ again_line ∷ split_line ∷ aside_line ∷ []
 
--- The host thread's first line looks at each page, 512 steps; begins its invalidation with 48 steps, 35 of them for the slots, of which the first one is set, and
--- one for its sweep, since no table is linked; changes each page, 512 steps; and ends the invalidation with six. Its second line makes one step. Its third line
--- makes as many as the first one. Its fourth line looks at each page of its run, and is refused with the last look.
+-- The host thread's first line looks at each page, 512 steps; begins its invalidation with 48 steps, 35 of them for the slots, of which the first one is set,
+-- and one for its sweep, since no table is linked; changes each page, 512 steps; and ends the invalidation with six. Its second line makes one step. Its third
+-- line makes as many as the first one. Its fourth line looks at each page of its run, and is refused with the last look.
 abbrev pub order_of_huge : ℕ → List ℕ
 order_of_huge steps = replicate 524 3 ++ replicate steps 2
 

@@ -27,7 +27,8 @@ returns-clause-large c = refl
 
 pub returns-clause-changed : goal.returns-clause-changed
 returns-clause-changed c lawful =
-    only_one lawful.1.1.0 (λ may. let not_ = size_is _ may.1.seen _ may.1.looked may.1.small in cc not_) (λ may. let asked = may.1.asked in cc asked) (λ may. let is = may.stands in cc is)
+    only_one lawful.1.1.0 (λ may. let not_ = size_is _ may.1.seen _ may.1.looked may.1.small in cc not_)
+    (λ may. let asked = may.1.asked in cc asked) (λ may. let is = may.stands in cc is)
 
 pub returns-clause-frame : goal.returns-clause-frame
 returns-clause-frame c lawful = let saw = lawful.1.1.0.1.1 in absurd (cc (size_is _ saw.entry _ saw.looked saw.small))

@@ -79,7 +79,8 @@ no_move change asked is =
 
 pub returns-clause-named : goal.returns-clause-named
 returns-clause-named c lawful =
-    only_one lawful.1.1.0 (λ may. no_move may.1.change may.1.asked may.1.changes) (λ may. let asked = may.1.asked in cc asked) (λ may. let is = may.stands in cc is)
+    only_one lawful.1.1.0 (λ may. no_move may.1.change may.1.asked may.1.changes)
+    (λ may. let asked = may.1.asked in cc asked) (λ may. let is = may.stands in cc is)
 
 pub returns-clause-others : goal.returns-clause-others
 returns-clause-others c lawful =

@@ -85,7 +85,8 @@ module _ (z : Sizes) (v : View) (a : ℕ) (note : ℕ) (P : TopicsInvariant z v)
       (DeniesPassed (place.SlotChange (change.WriteProtect range (protect.Walk true))) command (v.hand a)
       (part_topics (part.Sweep came) t (v.words area.Pool (pool_index (table_page (gone_up t.walk)) (entry_index came (gone_up t.walk).level)))).walk)
   sweep_denies S most K l j other R O passes =
-      passed_denies (tree_kept z v a (part.Sweep came) note S P) up (up_linked z v P a S.there S.needs.there) at_up range.start came x (linked_page (kind_of up.level x))
+      passed_denies (tree_kept z v a (part.Sweep came) note S P) up (up_linked z v P a S.there S.needs.there) at_up range.start came x
+      (linked_page (kind_of up.level x))
       (K.on.over K.left).span K.on.from refl (swept_there _ false range _ (sweep_known false range t.walk x most K)) l j other R O passes.1 passes.2
     where
       up : TableWalk
@@ -104,7 +105,8 @@ module _ (z : Sizes) (v : View) (a : ℕ) (note : ℕ) (P : TopicsInvariant z v)
       → AllOver P.up P.spot ((part_stepped a (part.Protect came) note v).words area.Pool) ((part_stepped a (part.Protect came) note v).words area.Root 0)
       (DeniesPassed (place.SlotChange (change.WriteProtect range protect.Protect)) command (v.hand a) (part_topics (part.Protect came) t 0).walk)
   protect_denies S K l j other R O passes =
-      passed_denies (tree_kept z v a (part.Protect came) note S P) t.walk (walk_linked z v P a S.there K.saw.over.there) ((P.held a S.there).table K.saw.over.there) range.start came
+      passed_denies (tree_kept z v a (part.Protect came) note S P) t.walk (walk_linked z v P a S.there K.saw.over.there)
+      ((P.held a S.there).table K.saw.over.there) range.start came
       (without_write t.walk.entry) None K.saw.over.span K.from left K.saw.over.there l j other R O passes.1 passes.2
     where
       left : (part_stepped a (part.Protect came) note v).words area.Pool (pool_index (table_page t.walk) (entry_index came t.walk.level))

@@ -75,7 +75,8 @@ module _ (z : Sizes) (v : View) (a : ℕ) (P : TopicsInvariant z v) (gfn : ℕ) 
   anew_denies : IsPart z v a (part.WalkAnew gfn) → Denies (part.WalkAnew gfn)
   anew_denies S =
       let x : ℕ = v.words area.Pool (pool_index (table_page (at_top t.walk)) (entry_index gfn 4)) in
-      entry_denies P.tree (at_top t.walk) (top_linked z v P a S.there S.needs.there) (top_stands P.tree t (P.held a S.there) (P.paths a S.there) S.needs.there) gfn x
+      entry_denies P.tree (at_top t.walk) (top_linked z v P a S.there S.needs.there)
+      (top_stands P.tree t (P.held a S.there) (P.paths a S.there) S.needs.there) gfn x
       (linked_page (kind_of 4 x)) (over_top gfn t.walk S.needs.small).span refl
 
   pub walk_denies : (anew : Bool) → IsPart z v a (if anew then part.WalkAnew gfn else part.Walk gfn)
@@ -86,7 +87,8 @@ module _ (z : Sizes) (v : View) (a : ℕ) (P : TopicsInvariant z v) (gfn : ℕ) 
   -- It forbids writes in the leaf.
   pub leaf_denies : IsPart z v a (part.Protect gfn) → Denies (part.Protect gfn)
   leaf_denies S =
-      entry_denies (tree_kept z v a (part.Protect gfn) 0 S P) t.walk (walk_linked z v P a S.there S.needs.saw.over.there) ((P.held a S.there).table S.needs.saw.over.there) gfn
+      entry_denies (tree_kept z v a (part.Protect gfn) 0 S P) t.walk (walk_linked z v P a S.there S.needs.saw.over.there)
+      ((P.held a S.there).table S.needs.saw.over.there) gfn
       (without_write t.walk.entry) None S.needs.saw.over.span left
     where
       left : (part_stepped a (part.Protect gfn) 0 v).words area.Pool (pool_index (table_page t.walk) (entry_index gfn t.walk.level))

@@ -115,10 +115,13 @@ leaf_met false fixable z gfn write t v low may is F O =
 
 pub fast_walk_known : (k : SpteKind) (z : Sizes) (gfn : ℕ) (write : Bool) (t : Topics) (v : ℕ) → kind_of t.walk.level v ≡ k → t.walk.level ≤ 4
     → FastFound gfn t → IsOver gfn t.walk
-    → FaultKnows (fast_walk_next k t.walk.level t.search.logged v) z gfn write (record t { walk = gone_down (linked_page k) t.walk (entry_index gfn t.walk.level) v })
+    → FaultKnows (fast_walk_next k t.walk.level t.search.logged v) z gfn write
+    (record t { walk = gone_down (linked_page k) t.walk (entry_index gfn t.walk.level) v })
 fast_walk_known (entry_kind.Table page) z gfn write t v is most F O =
     (same_fast gfn t _ refl refl refl refl refl F, λ _. gone_over gfn page v t.walk (above_lowest t.walk.level v page O.there is) most O)
-fast_walk_known entry_kind.Leaf z gfn write t v is most F O = leaf_met (one_mark_tells t.walk.level t.search.logged) (is_fixable v) z gfn write t v refl refl is F O
-fast_walk_known entry_kind.Absent z gfn write t v is most F O = not_fast z gfn write t v F O (ap (λ (k : SpteKind). forbids_more k t.walk.level t.search.logged v) is)
+fast_walk_known entry_kind.Leaf z gfn write t v is most F O =
+    leaf_met (one_mark_tells t.walk.level t.search.logged) (is_fixable v) z gfn write t v refl refl is F O
+fast_walk_known entry_kind.Absent z gfn write t v is most F O =
+    not_fast z gfn write t v F O (ap (λ (k : SpteKind). forbids_more k t.walk.level t.search.logged v) is)
 fast_walk_known entry_kind.Frozen z gfn write t v is most F O =
     not_fast z gfn write t v F O (ap (λ (k : SpteKind). forbids_more k t.walk.level t.search.logged v) is)

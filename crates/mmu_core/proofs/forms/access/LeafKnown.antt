@@ -221,7 +221,13 @@ pub mark_known : (fast : Bool) (z : Sizes) (gfn : ℕ) (write : Bool) (t : Topic
 mark_known true z gfn write t K = (
   record { section = K.section; owns_none = K.owns_none; owes_none = refl },
   K.held,
-  record { found = same_found gfn t _ refl K.found; entry = same_entry gfn write t _ refl K.entry; fixed = K.fixed refl; told = ap (λ l. one_mark_tells l t.search.logged) K.lowest; marks = sym K.logged },
+  record {
+    found = same_found gfn t _ refl K.found;
+    entry = same_entry gfn write t _ refl K.entry;
+    fixed = K.fixed refl;
+    told = ap (λ l. one_mark_tells l t.search.logged) K.lowest;
+    marks = sym K.logged;
+  },
 )
 mark_known false z gfn write t K =
     (record { section = K.section; owns_none = K.owns_none; owes_none = refl }, K.held, same_entry gfn write t _ refl K.entry)

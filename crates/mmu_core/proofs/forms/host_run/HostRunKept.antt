@@ -72,7 +72,8 @@ host_run_quiet (End p) page change h other = (end_plain p h.topics).quiet
 host_run_holds : (p : HostRunPlace) (page : ℕ) (change : RunChange) (h g : Held) (x : ℕ) (z : Sizes) (pool : ℕ → ℕ) (set : ℕ)
     → Holds z pool set (place_after (host_run_outcome p page change h x)) (ChangeRun page change) g
 host_run_holds Look page change h g x z pool set =
-    either_place (λ o. Holds z pool set (place_after o) (ChangeRun page change) g) (owns_run h.state.sizes h.state.actor page change) _ (Ends (Refused OutOfRange))
+    either_place (λ o. Holds z pool set (place_after o) (ChangeRun page change) g)
+    (owns_run h.state.sizes h.state.actor page change) _ (Ends (Refused OutOfRange))
     (each_look (λ o. Holds z pool set (place_after o) (ChangeRun page change) g) change (record { page = page; word = x }) one_look x tt tt tt tt) tt
 host_run_holds LookOn page change h g x z pool set =
     each_next_look (λ o. Holds z pool set (place_after o) (ChangeRun page change) g) change h.topics.host h.topics.row (page_after page change h.topics) x

@@ -178,7 +178,8 @@ module _ (line : Line) (h : Held) (page : ℕ) (change : RunChange) (cached : Bu
 
   -- The one page is changed, or, where an access has brought it in, not yet.
   page_changed : is_several h.topics.invalidations.own.pages ≡ false → ChangesPages false page change h → HasFlushedRun h → h.topics.frames.owned ≡ None
-      → owns_run h.state.sizes h.state.actor page change ≡ true → (won : Bool) → Knows (if won then End ends.Exclude else Change) (behind Change (record h.topics {
+      → owns_run h.state.sizes h.state.actor page change ≡ true → (won : Bool)
+      → Knows (if won then End ends.Exclude else Change) (behind Change (record h.topics {
         host = Some (record { page = page_looked h.topics.host; word = if won then as_it_is (word_looked h.topics.host) else v });
         row = one_look;
         watched = 0;
@@ -207,7 +208,8 @@ module _ (line : Line) (h : Held) (page : ℕ) (change : RunChange) (cached : Bu
       if v == word_looked h.topics.host then End ends.Exclude else
       Change)
       (behind Change (part_topics (if b then part.ChangeNext else part.Change (as_it_is (word_looked h.topics.host))) h.topics v))
-  change_known true several C F none own_ = next_changed h.topics.invalidations.own.pages several C F none own_ (v == word_next h.topics.invalidations.own.pages)
+  change_known true several C F none own_ =
+      next_changed h.topics.invalidations.own.pages several C F none own_ (v == word_next h.topics.invalidations.own.pages)
   change_known false one C F none own_ = page_changed one C F none own_ (v == word_looked h.topics.host)
 
   -- ---- all steps

@@ -112,7 +112,8 @@ module _ (line : Line) (h : Held) (page : ℕ) (change : RunChange) (cached : Bu
           (λ other wants. not_then (wants_small change) (maps_large v) other wants) (rests_still h.topics u refl refl refl refl refl refl K.0) K.1 closed
 
   pub look_on_known : HostRunKnows LookOn page change h → h.topics.invalidations.opened ≡ false
-      → KnowsBehind (host_run_outcome LookOn page change h v) (ChangeRun page change) (behind LookOn (part_topics (host_run_part LookOn page change h) h.topics v))
+      → KnowsBehind (host_run_outcome LookOn page change h v) (ChangeRun page change)
+      (behind LookOn (part_topics (host_run_part LookOn page change h) h.topics v))
   look_on_known K closed =
       let O = look_of page h K.2.looked K.2.at in
       let p : ℕ = page_after page change h.topics in

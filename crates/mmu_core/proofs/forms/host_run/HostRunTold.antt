@@ -23,8 +23,8 @@ use Rattle.mmu_core.specs.declared.invalidate.EndNext.TheVariants as ends_next
 use Rattle.mmu_core.specs.declared.outcome.Outcome.TheVariants.{Goes, Ends}
 use Rattle.mmu_core.specs.forms.access.AccessSteps.{ends_with}
 use Rattle.mmu_core.specs.forms.host_run.HostRunKnows.{HostRunRests}
-use Rattle.mmu_core.specs.forms.host_run.HostRunSteps.{after_run_begin, after_run_change, after_run_end, host_run_note, host_run_outcome, host_run_part, page_after}
-use Rattle.mmu_core.specs.forms.host_run.HostRunSteps.{run_target}
+use Rattle.mmu_core.specs.forms.host_run.HostRunSteps.{after_run_begin, after_run_change, after_run_end, host_run_note, host_run_outcome, host_run_part}
+use Rattle.mmu_core.specs.forms.host_run.HostRunSteps.{page_after, run_target}
 use Rattle.mmu_core.specs.lines.ScanPlaces.{HasScan, answer_without, claim_at}
 use Rattle.mmu_core.specs.orders.ClaimSteps.{FreeMap, Pages, Frames}
 use Rattle.mmu_core.specs.orders.InvalidateSteps.{begin_next, end_next}

@@ -125,7 +125,8 @@ row_looked : (look : HostLook) (row : HostRow) (level : ℕ) → 2 ≤ level →
     → makes_run level look row ≡ true → level_looked look row ≡ level
 row_looked look row level from most all small in_row =
     ap (λ (b : Bool). if b then host_level look.word else if makes_run 3 look row then 3 else if makes_run 2 look row then 2 else 1) small
-    ∙ each_several (λ l. row.looked ≡ run_pages l → makes_run l look row ≡ true → (if makes_run 3 look row then 3 else if makes_run 2 look row then 2 else 1) ≡ l)
+    ∙ each_several (λ l. row.looked ≡ run_pages l → makes_run l look row ≡ true
+    → (if makes_run 3 look row then 3 else if makes_run 2 look row then 2 else 1) ≡ l)
     (λ all in_row. ap (λ (b : Bool). if b then 3 else if makes_run 2 look row then 2 else 1) (makes_no_run 3 512 look row all (ap (λ n. 512 == n) span_3))
     ∙ ap (λ (b : Bool). if b then 2 else 1) in_row)
     (λ all in_row. ap (λ (b : Bool). if b then 3 else if makes_run 2 look row then 2 else 1) in_row) level from most all in_row
@@ -158,6 +159,7 @@ pub look_of : (page : ℕ) (h : Held) → is_some h.topics.host ≡ true → pag
     → (look : HostLook) × (h.topics.host ≡ Some look) × (look.page ≡ page)
 look_of page h some at = by h.topics.host refl some at
   where
-    by : (o : Option HostLook) → h.topics.host ≡ o → is_some o ≡ true → page_looked o ≡ page → (look : HostLook) × (h.topics.host ≡ Some look) × (look.page ≡ page)
+    by : (o : Option HostLook) → h.topics.host ≡ o → is_some o ≡ true → page_looked o ≡ page
+        → (look : HostLook) × (h.topics.host ≡ Some look) × (look.page ≡ page)
     by None is some at = absurd (cc some)
     by (Some look) is some at = (look, is, at)

@@ -179,7 +179,8 @@ peek_note false words = refl
 module _ (command : Command) (h : Held) (v : ℕ) where
   abbrev Notes : LogPlace → Type 0
   Notes p =
-      (log_note p h command ≡ ends_with (after_log (log_next p command h v) (log_reads p command h v))) ⊎ MayEnd (place.Log p) command h v ⊎ IsLook (place.Log p)
+      (log_note p h command ≡ ends_with (after_log (log_next p command h v) (log_reads p command h v)))
+      ⊎ MayEnd (place.Log p) command h v ⊎ IsLook (place.Log p)
 
   -- It may end with the look at the last virtual processor, and doesn't where this has yet to flush.
   await_note : (waits last : Bool) → is_some (log_read command) ≡ true → has_to_flush v ≡ waits → awaits_last h ≡ last → Notes Await

@@ -95,9 +95,11 @@ module _ (page : ℕ) (change : RunChange) (u : LineUnderWay) (fresh : u.stage �
       → ChangesUnder (is_several t.invalidations.own.pages) page change t u
   by_level true more pages =
       subst (λ b. ChangesUnder b page change t u) (sym (ap is_several pages ∙ more))
-      (subst (λ (o : Option PageRun). IfSome o (RunUnder page change u)) (sym pages) (level_is (put_level page change look row seen least), inl (refl, fresh, saw)))
+      (subst (λ (o : Option PageRun). IfSome o (RunUnder page change u)) (sym pages)
+      (level_is (put_level page change look row seen least), inl (refl, fresh, saw)))
     where
-      level_is : (level_put run ≡ level_set change) ⊎ ((change ≡ Small) × (maps_large look.word ≡ false) × (level_looked look row ≡ 1)) → level_put run ≡ level_set change
+      level_is : (level_put run ≡ level_set change) ⊎ ((change ≡ Small) × (maps_large look.word ≡ false) × (level_looked look row ≡ 1))
+          → level_put run ≡ level_set change
       level_is (inl put) = put
       level_is (inr one) = absurd (let lowest = one.2 in let more_ : 1 < level_looked look row = grind (arith, nat_tests) in omega (arith, lowest, more_))
   by_level false few pages =
@@ -164,8 +166,11 @@ module _ (z : Sizes) (v : View) (a : ℕ) (line : Line) (page : ℕ) (change : R
     looks_then = part_topics (begin_part p target h.topics) h.topics (found (Begin p))
 
     begin_comes : (next : BeginNext) → BeginComes next h.state.sizes target looks_then → HostRunUnder (after_run_begin next) page change looks_then u
-    begin_comes (begins_next.Goes q) C =
-        (R.under.1.0, subst (λ w. HasSeenRun page change w u.notes) (ap word_looked (sym (begin_leaves_looks p target h.topics (found (Begin p))).host)) R.under.1.1)
+    begin_comes (begins_next.Goes q) C = (
+      R.under.1.0,
+      subst (λ w. HasSeenRun page change w u.notes)
+          (ap word_looked (sym (begin_leaves_looks p target h.topics (found (Begin p))).host)) R.under.1.1,
+    )
     begin_comes begins_next.Begun C =
         begun_under page change u R.under.1.0 looks_then O.0 O.2 ((begin_leaves_looks p target h.topics (found (Begin p))).host ∙ O.1) h.topics.row
         (run_seen_at page change h O.0 O.1 K.0) ((P.looks a there).is_word O.0 O.1).2
@@ -204,7 +209,8 @@ module _ (z : Sizes) (v : View) (a : ℕ) (line : Line) (page : ℕ) (change : R
 
   abbrev ChangeOwes : Bool → Type 0
   ChangeOwes b =
-      GoesBy z v a line command (change_task b) (place.HostRun (if b then (if answer_in (change_task b) v.words == word_next pages then after_page pages else Change)
+      GoesBy z v a line command (change_task b)
+      (place.HostRun (if b then (if answer_in (change_task b) v.words == word_next pages then after_page pages else Change)
       else if answer_in (change_task b) v.words == word_looked h.topics.host then End ends.Exclude
       else Change)) ((if b then (if answer_in (change_task b) v.words == word_next pages then page_changed pages else [])
       else if answer_in (change_task b) v.words == word_looked h.topics.host then HostChanged page (entry_of (as_it_is (word_looked h.topics.host))) ∷ []
@@ -214,9 +220,11 @@ module _ (z : Sizes) (v : View) (a : ℕ) (line : Line) (page : ℕ) (change : R
   several_owes : IsPart z v a part.ChangeNext → TopicsInvariant z v → ReadyAt Change → HasWork z facts h.state.actor u.line.command → u.line.command ≡ command
       → IfSome pages (ChangesRun page change) → IfSome pages (RunUnder page change u) → ChangeOwes true
   several_owes M P R works asked C under =
-      subst (λ w. GoesBy z v a line command (change_task true) (place.HostRun (if w then after_page pages else Change)) ((if w then page_changed pages else []) ++ [])
+      subst (λ w. GoesBy z v a line command (change_task true)
+      (place.HostRun (if w then after_page pages else Change)) ((if w then page_changed pages else []) ++ [])
       facts past u) (sym (next_is_won z v a M P))
-      (subst (λ (o : Option PageRun). GoesBy z v a line command (change_task true) (place.HostRun (after_page o)) (page_changed o ++ []) facts past u) (sym M.needs.is)
+      (subst (λ (o : Option PageRun). GoesBy z v a line command (change_task true)
+      (place.HostRun (after_page o)) (page_changed o ++ []) facts past u) (sym M.needs.is)
       (next_flat z v a line page change facts past u M P R R.under.0 asked works
       (subst (λ (o : Option PageRun). IfSome o (ChangesRun page change)) M.needs.is C)
       (subst (λ (o : Option PageRun). IfSome o (RunUnder page change u)) M.needs.is under)))

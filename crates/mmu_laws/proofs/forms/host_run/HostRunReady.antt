@@ -75,4 +75,5 @@ module _ (z : Sizes) (v : View) (a : ℕ) (line : Line) (page : ℕ) (change : R
 
   -- A page of its own is one of the machine's.
   pub run_page_low : (other : ℕ) → Invariant z v → a < actors_of z → is_own h.state.sizes h.state.actor other ≡ true → other < z.pages
-  run_page_low other I there own_ = own_low z h.state.actor other I.sizes (ap (λ (y : Sizes). is_own y h.state.actor other) (sym (I.lines a there).sizes) ∙ own_)
+  run_page_low other I there own_ =
+      own_low z h.state.actor other I.sizes (ap (λ (y : Sizes). is_own y h.state.actor other) (sym (I.lines a there).sizes) ∙ own_)

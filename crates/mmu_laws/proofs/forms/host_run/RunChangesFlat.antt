@@ -58,7 +58,8 @@ use Rattle.mmu_laws.proofs.steps.AllowedWords.{entry_made}
 
 module _ (z : Sizes) (v : View) (a : ℕ) (line : Line) (page : ℕ) (change : RunChange) (facts : Facts) (past : Past) (u : LineUnderWay)
     (M : IsPart z v a part.ChangeNext) (P : TopicsInvariant z v)
-    (R : Ready z v line (ChangeRun page change) (place.HostRun Change) (v.hand a).topics facts u) (own : u.line ≡ line) (asked : u.line.command ≡ ChangeRun page change)
+    (R : Ready z v line (ChangeRun page change) (place.HostRun Change) (v.hand a).topics facts u)
+    (own : u.line ≡ line) (asked : u.line.command ≡ ChangeRun page change)
     (works : HasWork z facts (v.hand a).state.actor u.line.command) (C : ChangesRun page change M.needs.run) (under : RunUnder page change u M.needs.run) where
   abbrev command : Command
   command = ChangeRun page change
@@ -93,7 +94,8 @@ module _ (z : Sizes) (v : View) (a : ℕ) (line : Line) (page : ℕ) (change : R
   entry_then =
       entry_made (host_frame (word_seen run next)) (host_present (word_seen run next)) (host_allows_write (word_seen run next)) (level_put run)
       (put_low run (next_own z v a M P).level.1)
-      ∙ (ap (λ (l : ℕ). record (entry_of (word_seen run next)) { level = l }) under.0 ∙ ap (λ (e : HostEntry). record e { level = level_set change }) (sym entry_now))
+      ∙ (ap (λ (l : ℕ). record (entry_of (word_seen run next)) { level = l }) under.0
+      ∙ ap (λ (e : HostEntry). record e { level = level_set change }) (sym entry_now))
 
   -- ---- the words after it
 
@@ -105,12 +107,13 @@ module _ (z : Sizes) (v : View) (a : ℕ) (line : Line) (page : ℕ) (change : R
     slots = R.refines.slots;
     host = λ p lt.
         subst (λ (o : Option PageRun). mapping next (entry_of given) facts.host p
-        ≡ entry_of (upd host (page_to_change o) (if host (page_to_change o) == word_next o then word_to_give o else host (page_to_change o)) p)) (sym M.needs.is)
-        (won_maps z host facts.host R.refines.host next (word_seen run next) given (entry_of given) (next_found z v a M P) refl p lt);
+        ≡ entry_of (upd host (page_to_change o) (if host (page_to_change o) == word_next o then word_to_give o else host (page_to_change o)) p))
+        (sym M.needs.is) (won_maps z host facts.host R.refines.host next (word_seen run next) given (entry_of given) (next_found z v a M P) refl p lt);
     memory = λ p j low below.
         subst (λ (o : Option PageRun). facts.memory p j ≡ v.words area.Content (content_index (map_of z) (host_frame
         (upd host (page_to_change o) (if host (page_to_change o) == word_next o then word_to_give o else host (page_to_change o)) p)) j)) (sym M.needs.is)
-        (memory_stays z host facts.host R.refines.host next (word_seen run next) given facts.memory (v.words area.Content) same_frame R.refines.memory p j low below);
+        (memory_stays z host facts.host R.refines.host next (word_seen run next) given facts.memory (v.words area.Content)
+        same_frame R.refines.memory p j low below);
     paused = R.refines.paused;
     idle = R.refines.idle;
   }
@@ -195,7 +198,8 @@ module _ (z : Sizes) (v : View) (a : ℕ) (line : Line) (page : ℕ) (change : R
         ap (λ (s : Stage). stage_changed u.line.command facts.host s next (entry_of given)) fresh
         ∙ (ap (λ (c : Command). stage_changed c facts.host Fresh next (entry_of given)) asked
         ∙ ap (λ n. set_one next n (level_set change))
-        (ap (run_count change) (sym (unchanged page own_on) ∙ own_is) ∙ (Q.count ∙ (let same : level_span run.level ≡ level_span run.level - run.changed = omega (arith, none) in same))))
+        (ap (run_count change) (sym (unchanged page own_on) ∙ own_is)
+        ∙ (Q.count ∙ (let same : level_span run.level ≡ level_span run.level - run.changed = omega (arith, none) in same))))
 
   -- The page may be changed so: it is the first one of the run, or a later one.
   may_set : IsAllowed z facts past (v.hand a).state.actor u (HostChanged next (entry_of given))
@@ -242,7 +246,8 @@ module _ (z : Sizes) (v : View) (a : ℕ) (line : Line) (page : ℕ) (change : R
   pages_then : (topics_by v a next_task).invalidations.own.pages ≡ Some run_then
   pages_then =
       ap (λ (x : Topics). x.invalidations.own.pages)
-      (part_topics_is (v.hand a).state.sizes part.ChangeNext (own_index (v.hand a)) t 0 (answer_in next_task v.words) (is_there part.ChangeNext (v.hand a) M.needs))
+      (part_topics_is (v.hand a).state.sizes part.ChangeNext (own_index (v.hand a)) t 0 (answer_in next_task v.words)
+      (is_there part.ChangeNext (v.hand a) M.needs))
       ∙ (ap (λ (b : Bool). changed_more b t.invalidations.own.pages) (next_is_won z v a M P) ∙ ap (changed_more true) M.needs.is)
 
   under_then : HostRunUnder (after_page (Some run)) page change (topics_by v a next_task) u_then

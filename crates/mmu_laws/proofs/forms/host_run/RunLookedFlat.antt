@@ -104,7 +104,8 @@ module _ (z : Sizes) (v : View) (a : ℕ) (line : Line) (page : ℕ) (change : R
   some_among : (level : ℕ) → (page ≤ page) × (page < page + run_pages level)
   some_among level = let some = some_pages level in let is = some.1 in (omega arith, omega (arith, is))
 
-  entry_found : Invariant z v → a < actors_of z → owns_run h.state.sizes h.state.actor page change ≡ true → ReadyAt Look → facts.host page ≡ entry_of (found Look)
+  entry_found : Invariant z v → a < actors_of z → owns_run h.state.sizes h.state.actor page change ≡ true → ReadyAt Look
+      → facts.host page ≡ entry_of (found Look)
   entry_found I there own_ R =
       R.refines.host page (run_page_low z v a line page change facts past u page I there (page_own h.state.sizes h.state.actor page change own_))
       ∙ ap entry_of (sym (ap (λ (b : Bool). answer_in (part_task (if b then part.Host page else part.Seq) (own_index h) h.topics 1) v.words) own_))
@@ -217,7 +218,8 @@ module _ (z : Sizes) (v : View) (a : ℕ) (line : Line) (page : ℕ) (change : R
       on_span : at / level_span (host_level word) ≡ O.0.page / level_span (host_level word)
       on_span =
           let most = level_most word in
-          let A = subst (λ (c : RunChange). (run_first c page (entry_of word) ≤ at) × (at < run_first c page (entry_of word) + run_count c (entry_of word))) asked among in
+          let A = subst (λ (c : RunChange). (run_first c page (entry_of word) ≤ at)
+          × (at < run_first c page (entry_of word) + run_count c (entry_of word))) asked among in
           subst (λ p. at / level_span (host_level word) ≡ p / level_span (host_level word)) (sym O.2) (of_span (host_level word) at large most A.0 A.1)
 
       L : IsInLarge z v a I.sizes P S.there ((step_leaves z v a line command (place.HostRun LookOn) S I).opens refl) O.0 at
@@ -231,7 +233,8 @@ module _ (z : Sizes) (v : View) (a : ℕ) (line : Line) (page : ℕ) (change : R
         by (Huge level) asked =
             let own_ : owns_run h.state.sizes h.state.actor page (Huge level) ≡ true =
             subst (λ (c : RunChange). owns_run h.state.sizes h.state.actor page c ≡ true) asked K.2.own_ in
-            let A = subst (λ (c : RunChange). (run_first c page (entry_of word) ≤ at) × (at < run_first c page (entry_of word) + run_count c (entry_of word))) asked among in
+            let A = subst (λ (c : RunChange). (run_first c page (entry_of word) ≤ at)
+            × (at < run_first c page (entry_of word) + run_count c (entry_of word))) asked among in
             let low = A.0 in
             let high = A.1 in
             run_page_low z v a line page change facts past u at I S.there
@@ -270,7 +273,8 @@ module _ (z : Sizes) (v : View) (a : ℕ) (line : Line) (page : ℕ) (change : R
     huge_then : (wants_small change && maps_large found_now) ≡ true → SawHugeOne (noted_at at) page change
     huge_then =
         huge_seen at found_now entry_at
-        (λ level asked. subst (λ (c : RunChange). (run_first c page (entry_of word) ≤ at) × (at < run_first c page (entry_of word) + run_count c (entry_of word))) asked among)
+        (λ level asked. subst (λ (c : RunChange). (run_first c page (entry_of word) ≤ at)
+        × (at < run_first c page (entry_of word) + run_count c (entry_of word))) asked among)
 
     after_is : run_after z v a line page change facts past u LookOn ≡ part_topics (part.HostOn at) h.topics found_now
     after_is = run_after_is z v a line page change facts past u LookOn M
@@ -289,7 +293,8 @@ module _ (z : Sizes) (v : View) (a : ℕ) (line : Line) (page : ℕ) (change : R
         (subst (HasWork z facts h.state.actor) (own_command LookOn S R.under.0)
         (run_at_once z v a line page change facts past u LookOn true S I R.under.0 K.2.own_)) K.2.in_range
         (ap (λ (t : Topics). word_looked t.host) after_is ∙ word_is)
-        (ap (λ (t : Topics). t.row) after_is ∙ ap (λ (o : Option HostLook). looked_on o row at found_now) (O.1 ∙ ap (λ p. Some (record { page = p; word = word })) O.2))
+        (ap (λ (t : Topics). t.row) after_is ∙ ap (λ (o : Option HostLook). looked_on o row at found_now)
+        (O.1 ∙ ap (λ p. Some (record { page = p; word = word })) O.2))
         (subst (λ n. n ≤ run_count change (entry_of word)) (sym one_more) (let below = few in omega (arith, below)))
         (λ other wants. ap maps_large (sym word_is) ∙ K.2.small wants) huge_then
         (λ other. subst (λ n. SeenBy (in_order change row_then) change page n word (noted_at at)) (sym one_more) (seen_next other)))

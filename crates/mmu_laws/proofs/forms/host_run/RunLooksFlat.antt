@@ -49,7 +49,8 @@ use Rattle.mmu_laws.proofs.forms.host_run.SeenRows.{all_looked}
 
 module _ (page word : ℕ) (row : HostRow) (notes : Notes) where
   -- A run that isn't refused was seen in a row.
-  pub seen_run : (change : RunChange) → IsRunChange change → (wants_small change ≡ true → maps_large word ≡ false) → row.looked ≡ run_count change (entry_of word)
+  pub seen_run : (change : RunChange) → IsRunChange change → (wants_small change ≡ true → maps_large word ≡ false)
+      → row.looked ≡ run_count change (entry_of word)
       → fits change (record { page = page; word = word }) row ≡ true → SeenBy (in_order change row) change page row.looked word notes
       → HasSeenRun page change word notes
   seen_run Small in_range small all fit seen = record { row = subst (λ n. HasSeenRow Small page n word notes) all seen; fits = refl }
@@ -112,7 +113,8 @@ module _ (z : Sizes) (v : View) (a : ℕ) (line : Line) (page : ℕ) (change : R
 
     abbrev pub Owes : Outcome → Type 0
     Owes o =
-        GoesBy z v a line command (RunTask z v a line page change facts past u p) (place_after o) (LookedAtHost at ∷ (exiting o ++ answering o line)) facts past u
+        GoesBy z v a line command (RunTask z v a line page change facts past u p) (place_after o)
+        (LookedAtHost at ∷ (exiting o ++ answering o line)) facts past u
 
     goes : (next : HostRunPlace) → HostRunUnder next page change t (under_after (LookedAtHost at) facts u) → Owes (Goes (place.HostRun next))
     goes next under = record { allowed = (ap may_look fresh, tt); refines = stands; under = (own, under) }
@@ -121,7 +123,8 @@ module _ (z : Sizes) (v : View) (a : ℕ) (line : Line) (page : ℕ) (change : R
     leaves refusal may = record {
       allowed = (
         ap may_look fresh,
-        (leaves_by z v a line command (RunTask z v a line page change facts past u p) facts past (under_after (LookedAtHost at) facts u) stands (Refused refusal)
+        (leaves_by z v a line command (RunTask z v a line page change facts past u p) facts past
+            (under_after (LookedAtHost at) facts u) stands (Refused refusal)
             own fresh (subst (λ c. MayLeave z facts h.state.actor c (noted_then at) (Refused refusal)) (sym asked) may)).allowed,
       );
       refines = stands;
@@ -147,7 +150,8 @@ module _ (z : Sizes) (v : View) (a : ℕ) (line : Line) (page : ℕ) (change : R
           subst (λ (r : HostRow). SeenBy (in_order change r) change page r.looked (word_looked t.host) (noted_then at)) (sym row_is)
               (subst (λ w. SeenBy (in_order change row) change page row.looked w (noted_then at)) (sym host_is) (seen other)),
         ))
-        (λ last. one_place Owes (fits change (record { page = page; word = word }) row) (Goes (place.HostRun (Begin begins.Exclude))) (Ends (Refused NotAligned))
+        (λ last. one_place Owes (fits change (record { page = page; word = word }) row)
+        (Goes (place.HostRun (Begin begins.Exclude))) (Ends (Refused NotAligned))
         (λ fit. goes (Begin begins.Exclude) (
           fresh,
           subst (λ w. HasSeenRun page change w (noted_then at)) (sym host_is)

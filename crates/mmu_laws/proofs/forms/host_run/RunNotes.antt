@@ -37,7 +37,8 @@ each_pages P largest large small level = by (level == 3) (level == 2)
 pub own_among : (change : RunChange) (page : ℕ) (entry : HostEntry) → IsAmong (run_first change page entry) (run_count change entry) page
 own_among (Huge level) page entry = let some = some_pages level in let is = some.1 in (omega arith, omega (arith, is))
 own_among Small page entry =
-    each_pages (λ n. (page / n * n ≤ page) × (page < page / n * n + n)) (omega arith, omega arith) (omega arith, omega arith) (omega arith, omega arith) entry.level
+    each_pages (λ n. (page / n * n ≤ page) × (page < page / n * n + n))
+    (omega arith, omega arith) (omega arith, omega arith) (omega arith, omega arith) entry.level
 
 -- A run that is to be large is looked at in its order.
 pub further_on : (page looked : ℕ) → 1 ≤ looked → other_page page page looked ≡ page + looked
@@ -176,10 +177,12 @@ module _ (notes : Notes) (at : ℕ) (entry : HostEntry) where
             none =
                 let same : word + 4096 * 0 ≡ word = omega arith in
                 ap (λ w. continues (host_frame word + 0) (host_allows_write word) (entry_of w)) same
-                ∙ ap (λ (b : Bool). b && (((entry_of word).frame == host_frame word + 0) && (if host_allows_write word then (entry_of word).writable else not (entry_of word).writable))) absent
+                ∙ ap (λ (b : Bool). b && (((entry_of word).frame == host_frame word + 0)
+                && (if host_allows_write word then (entry_of word).writable else not (entry_of word).writable))) absent
         by true present =
             gap_in (seen_row word page) (seen_own word page) (row_small R) row.looked (omega arith)
-            (ap (continues (host_frame word + row.looked) (host_allows_write word)) (ap (with_next (seen_row word page)) (sym at_is) ∙ (next_there (seen_row word page) ∙ is))
+            (ap (continues (host_frame word + row.looked) (host_allows_write word))
+            (ap (with_next (seen_row word page)) (sym at_is) ∙ (next_there (seen_row word page) ∙ is))
             ∙ unlike (continues (host_frame word + row.looked) (host_allows_write word) (entry_of found)) refl)
           where
             unlike : (b : Bool) → continues (host_frame word + row.looked) (host_allows_write word) (entry_of found) ≡ b
@@ -192,10 +195,12 @@ module _ (notes : Notes) (at : ℕ) (entry : HostEntry) where
               where
                 all_on : found ≡ word + 4096 * row.looked → continues_on ≡ true
                 all_on found_is =
-                    let below : nat_lt row.looked (level_span 3) ≡ true = ap (nat_lt row.looked) span_3 ∙ (let test : nat_lt row.looked 262144 ≡ true = grind (arith, nat_tests) in test) in
+                    let below : nat_lt row.looked (level_span 3) ≡ true =
+                    ap (nat_lt row.looked) span_3 ∙ (let test : nat_lt row.looked 262144 ≡ true = grind (arith, nat_tests) in test) in
                     let page_is : (at == page + row.looked) ≡ true = eq-eqb at (page + row.looked) at_is in
                     let word_is : (found == word + 2 ^ 12 * row.looked) ≡ true = eq-eqb found (word + 2 ^ 12 * row.looked) found_is in
-                    ap (λ (b : Bool). b && (host_present word && (nat_lt row.looked (level_span 3) && (at == page + row.looked && found == word + 2 ^ 12 * row.looked)))) alike
+                    ap (λ (b : Bool). b && (host_present word
+                    && (nat_lt row.looked (level_span 3) && (at == page + row.looked && found == word + 2 ^ 12 * row.looked)))) alike
                     ∙ ap (λ (b : Bool). b && (nat_lt row.looked (level_span 3) && (at == page + row.looked && found == word + 2 ^ 12 * row.looked))) present
                     ∙ ap (λ (b : Bool). b && (at == page + row.looked && found == word + 2 ^ 12 * row.looked)) below
                     ∙ ap (λ (b : Bool). b && (found == word + 2 ^ 12 * row.looked)) page_is ∙ word_is

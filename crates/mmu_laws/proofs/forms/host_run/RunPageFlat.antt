@@ -43,8 +43,8 @@ use Rattle.mmu_laws.proofs.forms.host.HostEntries.{still_agree}
 use Rattle.mmu_laws.proofs.steps.AllowedWords.{words_tell}
 
 -- A small page is a run of one.
-one_page : (level page other : ℕ) → level ≡ 1 → page / run_pages level * run_pages level ≤ other → other < page / run_pages level * run_pages level + run_pages level
-    → other ≡ page
+one_page : (level page other : ℕ) → level ≡ 1 → page / run_pages level * run_pages level ≤ other
+    → other < page / run_pages level * run_pages level + run_pages level → other ≡ page
 one_page level page other one =
     subst (λ l. page / run_pages l * run_pages l ≤ other → other < page / run_pages l * run_pages l + run_pages l → other ≡ page) (sym one)
     (λ low high. omega (arith, low, high))
@@ -85,7 +85,8 @@ module _ (z : Sizes) (v : View) (a : ℕ) (line : Line) (page : ℕ) (facts : Fa
 
   after_is : topics_by v a page_task ≡ part_topics (part.Change put) t (answer_in page_task v.words)
   after_is =
-      part_topics_is (v.hand a).state.sizes (part.Change put) (own_index (v.hand a)) t 0 (answer_in page_task v.words) (is_there (part.Change put) (v.hand a) M.needs)
+      part_topics_is (v.hand a).state.sizes (part.Change put) (own_index (v.hand a)) t 0 (answer_in page_task v.words)
+      (is_there (part.Change put) (v.hand a) M.needs)
 
   -- ---- where it is won
 
@@ -126,7 +127,8 @@ module _ (z : Sizes) (v : View) (a : ℕ) (line : Line) (page : ℕ) (facts : Fa
       allowed = (inr (inl (fresh, may_set)), tt);
       refines = record {
         slots = R.refines.slots;
-        host = λ p lt. subst (λ q. mapping q (entry_of put) facts.host p ≡ entry_of (upd host at_page (if host at_page == looked then put else host at_page) p)) at
+        host = λ p lt. subst (λ q. mapping q (entry_of put) facts.host p
+            ≡ entry_of (upd host at_page (if host at_page == looked then put else host at_page) p)) at
             (won_maps z host facts.host R.refines.host at_page looked put (entry_of put) won refl p lt);
         memory = memory_stays z host facts.host R.refines.host at_page looked put facts.memory (v.words area.Content) stays_frame R.refines.memory;
         paused = R.refines.paused;

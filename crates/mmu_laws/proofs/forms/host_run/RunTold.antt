@@ -1,4 +1,5 @@
--- Each event that a line tells which maps a run of host pages as one, or its pages by themselves, is of the word of its step, and of what this finds and leaves.
+-- Each event that a line tells which maps a run of host pages as one, or its pages by themselves, is of the word of its step, and of what this
+-- finds and leaves.
 use Rattle.std.proofs.Common.{◌≡◌, eqb-true, ℕ, [], ◌∷◌, refl, ap}
 use Rattle.std.proofs.lemmas.List.Elements.{All-cons}
 use Rattle.std.specs.Prelude.{Bool, true, false, ◌==◌, if◌then◌else◌, Option, None, Some}

@@ -39,8 +39,8 @@ module _ (level first other : ℕ) (from : 2 ≤ level) (most : level ≤ 3) whe
       (each_pages (λ n. first / n * n ≤ other → other < first / n * n + n → other / n ≡ first / n) (λ low high. omega (arith, low, high))
       (λ low high. omega (arith, low, high)) (λ low high. omega (arith, low, high)) level)
 
-pub set_run : (page : ℕ) (change : RunChange) (run : PageRun) → ChangesRun page change run → (maps_large run.word ≡ false → run.first % level_span run.level ≡ 0)
-    → IsSetRun page change run
+pub set_run : (page : ℕ) (change : RunChange) (run : PageRun) → ChangesRun page change run
+    → (maps_large run.word ≡ false → run.first % level_span run.level ≡ 0) → IsSetRun page change run
 set_run page (Huge level) run C begins =
     let same = (C.huge level refl).0 in
     let at = C.first in
