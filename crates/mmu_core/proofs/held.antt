@@ -9,6 +9,8 @@ pub mod FrameCounters
 pub mod FlushChanges
 pub mod FlushKept
 pub mod FlushSteps
+pub mod FlushedCaches
+pub mod ReachKept
 pub mod UsableKept
 pub mod UsableSteps
 pub mod LeadsDown

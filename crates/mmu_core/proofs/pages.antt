@@ -13,6 +13,8 @@ pub mod EntryStill
 pub mod ProtectedLeaf
 pub mod LoadedKept
 pub mod Linked
+pub mod LinkedKept
+pub mod WalksTo
 pub mod NoneBelow
 pub mod SweptEntries
 pub mod SweptKept

@@ -48,7 +48,8 @@ pub use Rattle.mmu_core.proofs.held.CopiedSteps.{CopiedAt}
 use Rattle.mmu_core.proofs.held.KeptEmpty.{page_empty}
 use Rattle.mmu_core.proofs.held.FlushSteps.{FlushAt}
 use Rattle.mmu_core.proofs.held.FreshFrames.{behind_it}
-use Rattle.mmu_core.proofs.held.UsableKept.{UsableAt, used_agrees, vcpu_below}
+use Rattle.mmu_core.proofs.held.UsableKept.{UsableAt, used_agrees}
+use Rattle.mmu_core.proofs.forms.access.CachedKept.{vcpu_below}
 use Rattle.mmu_core.proofs.invariant.Kept.{makes_at}
 use Rattle.mmu_core.proofs.forms.access.AccessParts.{AreSmall}
 use Rattle.mmu_core.proofs.forms.access.CachedKept.{used_covers}

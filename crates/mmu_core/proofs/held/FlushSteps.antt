@@ -152,7 +152,7 @@ module _ (z : Sizes) (v : View) (a note : ℕ) where
   abbrev pub OfSameFrames : (Invalidated → ℕ → Type 0) → Type 0
   OfSameFrames Is = (k : ℕ) → Is h.topics.invalidations.own k → Is (topics part.ChangeNext).invalidations.own k
 
-  module _ {Is : Invalidated → ℕ → Type 0} (same : OfSameFrames Is) {state : ℕ} {stay : Stay} where
+  module _ (Is : Invalidated → ℕ → Type 0) (same : OfSameFrames Is) {state : ℕ} {stay : Stay} where
     -- The lock was taken alone, or not.
     locked_flushed : (k : ℕ) → FlushFor Is h.topics k state stay → FlushFor Is (topics part.Exclude) k state stay
     locked_flushed k F = by (found part.Exclude == 0 && not h.topics.invalidations.opened)
@@ -203,4 +203,4 @@ module _ (z : Sizes) (v : View) (a note : ℕ) where
   part_flushed Was Is step g S I same own others F = each_flushed Is z v a (states step) (record g { topics = topics step })
       (λ i lt low opened. let O = own i lt low opened in own_flushed step S O.0 O.1 (F i a lt low opened))
       (λ i k lt low ne opened. flushed_more (others i k lt low ne opened) (other_flushed step k ne (F i k lt low opened)))
-      (λ k low. topics_flushed same step k S (shows step g I k (omega (arith, low))))
+      (λ k low. topics_flushed Is same step k S (shows step g I k (omega (arith, low))))

@@ -26,7 +26,7 @@ use Rattle.mmu_core.proofs.machine.Columns.{upd_other, upd_same}
 use Rattle.mmu_core.proofs.machine.PartStepping.{IsPart}
 
 -- What is so of a virtual processor that has made its flush: it has nothing of these frames cached, and none in reach.
-abbrev HasNone : (z : Sizes) (v : View) → TopicsInvariant z v → Invalidated → ℕ → Type 0
+abbrev pub HasNone : (z : Sizes) (v : View) → TopicsInvariant z v → Invalidated → ℕ → Type 0
 HasNone z v I own_ k = IsClean own_ (v.hand k).cached.items × InReach I.up I.spot (v.words area.Pool) (v.hand k).topics (IsNoLeafIn own_)
 
 -- Where actor a was asked for the flush of an open invalidation, and has none of its frames cached or in reach, it has nothing of them cached then.
@@ -36,7 +36,7 @@ KeepsClean z v I a c =
     → HasNone z v I (v.hand i).topics.invalidations.own a → IsClean (v.hand i).topics.invalidations.own c.items
 
 -- Both are so of who has made the flush.
-both_flushed : (z : Sizes) (v : View) (I : TopicsInvariant z v) → FlushAt z v
+pub both_flushed : (z : Sizes) (v : View) (I : TopicsInvariant z v) → FlushAt z v
     → FlushesFor (HasNone z v I) (actors_of z) z.vcpus (v.words area.State) (λ i. (v.hand i).topics)
 both_flushed z v I F i k lt low opened = flushed_both (F i k lt low opened) (I.reach_flushed i k lt low opened)
 
@@ -63,7 +63,7 @@ module _ (z : Sizes) (v : View) (a note : ℕ) (c : Buffer Translation) (g : Hel
   -- Who makes a flush has nothing cached.
   flush_cleans : (own_ : Invalidated) (step : PartStep) → Flushes z v a note step (CachedClean v a (behind step) own_ a)
   unfolding flushed
-  flush_cleans own_ part.Enter asks =
+  flush_cleans own_ part.Enter = λ asks.
       subst (λ (y : Held). IsClean own_ y.cached.items) (sym (upd_same v.hand a (behind part.Enter)))
       (subst (λ (b : Bool). IsClean own_ (if b then buffer [] c.capacity else c).items) (sym asks) (All-nil (IsApart own_)))
   flush_cleans own_ _ = tt

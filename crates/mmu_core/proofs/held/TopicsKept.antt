@@ -26,6 +26,8 @@ use Rattle.mmu_core.proofs.held.InvalidationsKept.{checks_kept, counts_kept, few
 use Rattle.mmu_core.proofs.pages.LoadedKept.{loaded_kept}
 use Rattle.mmu_core.proofs.held.LockKept.{lock_kept}
 use Rattle.mmu_core.proofs.pages.LeavesOver.{leaves_kept}
+use Rattle.mmu_core.proofs.pages.LinkedKept.{linked_kept}
+use Rattle.mmu_core.proofs.held.ReachKept.{reach_flushed_kept, reach_kept}
 use Rattle.mmu_core.proofs.pages.Paths.{paths_kept}
 use Rattle.mmu_core.proofs.pages.PoolKept.{uses_kept}
 use Rattle.mmu_core.proofs.machine.SameTopics.{same_topics}
@@ -75,6 +77,9 @@ topics_part_kept z v a step note S I = record {
   tree = tree_kept z v a step note S I;
   held = held_kept z v a step note S I;
   paths = paths_kept z v a step note S I;
+  linked = linked_kept z v a step note S I;
+  reach = reach_kept z v a step note S I;
+  reach_flushed = reach_flushed_kept z v a step note S I;
   owed = owed_kept z v a step note S I;
   sets = sets_kept z v a step note S I;
   old_sets = old_sets_kept z v a step note S I;

@@ -37,10 +37,11 @@ use Rattle.mmu_core.specs.invariant.CachedPart.{IsLeafFor, IsTranslationFor}
 use Rattle.mmu_core.specs.invariant.Invariant.{Invariant}
 use Rattle.mmu_core.specs.invariant.InvalidatedPart.{may_use}
 use Rattle.mmu_core.specs.invariant.TopicsInvariant.{TopicsInvariant}
+use Rattle.mmu_core.specs.forms.access.AccessKnows.{AccessKnows}
 use Rattle.mmu_core.specs.forms.access.AccessSteps.{access_caches, access_task, is_found, touch_of}
 use Rattle.mmu_core.specs.forms.access.Cached.{UsesTranslation, flushed, with_leaf}
 use Rattle.mmu_core.specs.forms.access.FaultSteps.{allows_access}
-use Rattle.mmu_core.specs.lines.Forms.{caches_at}
+use Rattle.mmu_core.specs.lines.Forms.{KnowsPart, caches_at}
 use Rattle.mmu_core.specs.lines.PartAt.{task_at}
 use Rattle.mmu_core.specs.machine.View.{View, answer_in, hand_after, part_stepped, stepped, upd, words_after}
 use Rattle.mmu_core.proofs.held.FlushKept.{walk_keeps}
@@ -50,7 +51,8 @@ pub use Rattle.mmu_core.proofs.held.UsableSteps.{UsableAt}
 use Rattle.mmu_core.proofs.invariant.Kept.{makes_at}
 use Rattle.mmu_core.proofs.invariant.QuietKept.{MakesAt}
 use Rattle.mmu_core.proofs.forms.access.AccessParts.{AreSmall}
-use Rattle.mmu_core.proofs.forms.access.CachedKept.{found_is_leaf, leaf_found, used_covers, with_leaf_all}
+use Rattle.mmu_core.proofs.forms.access.CachedKept.{found_is_leaf, leaf_found, used_covers, vcpu_below, with_leaf_all}
+use Rattle.mmu_core.proofs.lines.KnowsKept.{step_knows}
 use Rattle.mmu_core.proofs.lines.StepIn.{StepIn, Makes, Touches, step_of}
 use Rattle.mmu_core.proofs.machine.PartStepping.{IsPart}
 use Rattle.mmu_core.proofs.machine.Stepping.{IsStep}
@@ -71,15 +73,15 @@ UsableAfter z v a g c task =
     UsableBehind z v a g task (topics_after (v.hand a).state.sizes k (v.hand a).topics x) (flushed k c x)
 
 -- After a touch, and after each step.
-touched_usable : (z : Sizes) (v : View) (a : ℕ) (c : Buffer Translation) (g : Held) (op : Op) (index : ℕ) → Caches z v a c → UsableAt z v
+touched_usable : (z : Sizes) (v : View) (a : ℕ) (I : TopicsInvariant z v) (c : Buffer Translation) (g : Held) (op : Op) (index : ℕ) → Caches z v I a c → UsableAt z v
     → UsableAfter z v a g c (touch_of op index)
 unfolding topics_after flushed
-touched_usable z v a c g Read index C U = touch_usable z v a c g C U
-touched_usable z v a c g _ index C U = touch_usable z v a c g C U
+touched_usable z v a I c g Read index C U = touch_usable z v a I c g C U
+touched_usable z v a I c g _ index C U = touch_usable z v a I c g C U
 
-task_usable : (z : Sizes) (v : View) (a : ℕ) (c : Buffer Translation) (g : Held) (task : Task) → StepIn z v a task → TopicsInvariant z v
-    → Caches z v a c → FlushAt z v → UsableAt z v → UsableAfter z v a g c task
-task_usable z v a c g _ (Touches op index) I C F U = touched_usable z v a c g op index C U
+task_usable : (z : Sizes) (v : View) (a : ℕ) (c : Buffer Translation) (g : Held) (task : Task) → StepIn z v a task → (I : TopicsInvariant z v)
+    → Caches z v I a c → FlushAt z v → UsableAt z v → UsableAfter z v a g c task
+task_usable z v a c g _ (Touches op index) I C F U = touched_usable z v a I c g op index C U
 task_usable z v a c g _ (Makes step note S) I C F U =
     subst (λ (t : Topics). UsableBehind z v a g task t (flushed k c x)) (sym (part_topics_is h.state.sizes step (own_index h) h.topics note x
     (is_there step h S.needs)))
@@ -103,11 +105,6 @@ task_usable z v a c g _ (Makes step note S) I C F U =
 
 -- ---- What an access caches.
 
--- A virtual processor makes it.
-pub vcpu_below : (z : Sizes) (actor : Actor) (gfn word : ℕ) (op : Op) → IsCommandFor z actor (Access gfn word op) → index_of z actor < z.vcpus
-vcpu_below z (Vcpu n) gfn word op may = may.0
-vcpu_below z _ gfn word op may = absurd may
-
 module _ (z : Sizes) (v : View) (a : ℕ) (I : Invariant z v) (P : TopicsInvariant z v) (there : a < actors_of z) (U : UsableAt z v) where
   abbrev h : Held
   h = v.hand a
@@ -120,35 +117,35 @@ module _ (z : Sizes) (v : View) (a : ℕ) (I : Invariant z v) (P : TopicsInvaria
   entry gfn = v.words area.Pool (pool_index (table_page walk) (entry_index gfn walk.level))
 
   -- A leaf that its walk finds is cached before what was cached: it is the one that slots and host give.
-  walk_agrees : (gfn : ℕ) (allowed : Bool) → IsPart z v a (part.Walk gfn) → Agrees v.words h.cached.items
+  walk_agrees : (gfn : ℕ) (allowed : Bool) → a < z.vcpus → h.topics.stay ≡ Guest → IsPart z v a (part.Walk gfn) → Agrees v.words h.cached.items
       → Agrees v.words (if is_found (kind_of walk.level (entry gfn)) allowed then with_leaf gfn walk.level (entry gfn) h.cached else h.cached).items
-  walk_agrees gfn allowed S each = by (is_found (kind_of walk.level (entry gfn)) allowed) refl
+  walk_agrees gfn allowed low guest S each = by (is_found (kind_of walk.level (entry gfn)) allowed) refl
     where
       by : (b : Bool) → is_found (kind_of walk.level (entry gfn)) allowed ≡ b
           → Agrees v.words (if b then with_leaf gfn walk.level (entry gfn) h.cached else h.cached).items
       by false is = each
       by true is =
-          let found = leaf_found z v a gfn there I P S.needs.0 (found_is_leaf (kind_of walk.level (entry gfn)) allowed is) in
+          let found = leaf_found z v a gfn low guest P S.needs.0 (found_is_leaf (kind_of walk.level (entry gfn)) allowed is) in
           with_leaf_all (IsTranslationFor (v.words area.Pool) (v.words area.Host) (v.words area.Slots 0)) gfn walk.level (entry gfn) h.cached found each
 
-  access_cached : (p : AccessPlace) (gfn word : ℕ) (op : Op) → IsCommandFor z h.state.actor (Access gfn word op)
-      → MakesAt z v a (place.Access p) (Access gfn word op) → Caches z v a (access_caches p h gfn op (answer_in (access_task p h gfn word op) v.words))
-  access_cached (Walk again) gfn word op may makes =
+  access_cached : (p : AccessPlace) (gfn word : ℕ) (op : Op) → IsCommandFor z h.state.actor (Access gfn word op) → AccessKnows p gfn (is_write op) h
+      → MakesAt z v a (place.Access p) (Access gfn word op) → Caches z v P a (access_caches p h gfn op (answer_in (access_task p h gfn word op) v.words))
+  access_cached (Walk again) gfn word op may K makes =
       let allowed : Bool = allows_access (is_write op) (entry gfn) in
       let S = makes (part.Walk gfn) refl in
       let low : a < z.vcpus = subst (λ i. i < z.vcpus) (I.lines a there).index (vcpu_below z h.state.actor gfn word op may) in
       record {
-        keeps = walk_keeps z v a P gfn allowed S;
-        agrees = λ lt may. walk_agrees gfn allowed S (U.agrees a lt may);
+        keeps = walk_keeps z v a P gfn allowed K.0.guest S;
+        agrees = λ lt may. walk_agrees gfn allowed low K.0.guest S (U.agrees a lt may);
         none = λ high. absurd (omega (arith, low, high));
       }
-  access_cached _ gfn word op may makes = has_cached z v a there U
+  access_cached _ gfn word op may K makes = has_cached z v P a there U
 
   -- No other step caches anything.
-  line_cached : (p : Place) (command : Command) → IsCommandFor z h.state.actor command → MakesAt z v a p command
-      → Caches z v a (caches_at p command h (answer_in (task_at p command h) v.words))
-  line_cached (place.Access p) (Access gfn word op) may makes = access_cached p gfn word op may makes
-  line_cached _ _ may makes = has_cached z v a there U
+  line_cached : (p : Place) (command : Command) → IsCommandFor z h.state.actor command → KnowsPart p command h → MakesAt z v a p command
+      → Caches z v P a (caches_at p command h (answer_in (task_at p command h) v.words))
+  line_cached (place.Access p) (Access gfn word op) may K makes = access_cached p gfn word op may K makes
+  line_cached _ _ may K makes = has_cached z v P a there U
 
 -- ---- Each step keeps it.
 
@@ -159,13 +156,14 @@ line_usable_kept z v a line command p small S I P F U =
     let makes : MakesAt z v a p command = makes_at z v a line command p small S I P in
     let x : ℕ = answer_in (task_at p command h) v.words in
     task_usable z v a (caches_at p command h x) (hand_after line command p h x) (task_at p command h) (step_of z v a command p makes) P
-    (line_cached z v a I P S.there U p command (subst (λ actor. IsCommandFor z actor command) S.own S.allowed) makes) F U
+    (line_cached z v a I P S.there U p command (subst (λ actor. IsCommandFor z actor command) S.own S.allowed)
+    (step_knows z v a line command p S I) makes) F U
 
 pub part_usable_kept : (z : Sizes) (v : View) (a : ℕ) (step : PartStep) (note : ℕ) → IsPart z v a step → TopicsInvariant z v → FlushAt z v
     → UsableAt z v → UsableAt z (part_stepped a step note v)
 part_usable_kept z v a step note S P F U =
     let h : Held = v.hand a in
-    task_usable z v a h.cached h (part_task step (own_index h) h.topics note) (Makes step note S) P (has_cached z v a S.there U) F U
+    task_usable z v a h.cached h (part_task step (own_index h) h.topics note) (Makes step note S) P (has_cached z v P a S.there U) F U
 
 -- ---- What an access uses.
 

@@ -32,8 +32,9 @@ use Rattle.mmu_core.specs.invariant.TopicsInvariant.{TopicsInvariant}
 use Rattle.mmu_core.specs.forms.access.Cached.{asks_flush, flushed, flushed_by}
 use Rattle.mmu_core.specs.machine.View.{View, answer_in, part_stepped, upd, words_after}
 use Rattle.mmu_core.proofs.held.KeptEmpty.{page_empty, slot_empty}
-use Rattle.mmu_core.proofs.held.FlushChanges.{begun_asks, cached_more, ended_asks, left_asks, none_asked, used_asked, used_gone}
-use Rattle.mmu_core.proofs.held.FlushSteps.{FlushAt, FlushFor, KeepsClean, asked_there}
+use Rattle.mmu_core.proofs.held.FlushChanges.{begun_asks, ended_asks, flushed_more, left_asks, none_asked, used_asked, used_gone}
+use Rattle.mmu_core.proofs.held.FlushSteps.{FlushAt, FlushFor, asked_there}
+use Rattle.mmu_core.proofs.held.FlushedCaches.{KeepsClean, both_flushed}
 use Rattle.mmu_core.proofs.held.FreshFrames.{leaf_brought, leaf_elsewhere}
 use Rattle.mmu_core.proofs.machine.Columns.{at_upd, same_or, upd_other, upd_same}
 use Rattle.mmu_core.proofs.machine.PartStepping.{IsFlushedOut, IsPart, flushed_within}
@@ -138,15 +139,15 @@ none_usable z v none = record {
 }
 
 -- What actor a has cached before a flush: of the frames of an open invalidation, of which it was asked for a flush, there is nothing if there was
--- nothing; it agrees where what is cached may be used; and there is none of it, where the actor is no virtual processor.
-pub record Caches (z : Sizes) (v : View) (a : ℕ) (c : Buffer Translation) : Type 0 where
-  pub keeps : KeepsClean z v a c
+-- nothing, and nothing in reach; it agrees where what is cached may be used; and there is none of it, where the actor is no virtual processor.
+pub record Caches (z : Sizes) (v : View) (I : TopicsInvariant z v) (a : ℕ) (c : Buffer Translation) : Type 0 where
+  pub keeps : KeepsClean z v I a c
   pub agrees : a < z.vcpus → may_use (v.words area.State a) (v.hand a).topics.stay ≡ true → Agrees v.words c.items
   pub none : z.vcpus ≤ a → c.items ≡ []
 
 -- Such is what it has.
-pub has_cached : (z : Sizes) (v : View) (a : ℕ) → a < actors_of z → UsableAt z v → Caches z v a (v.hand a).cached
-has_cached z v a there U = record { keeps = λ i lt opened asked clean. clean; agrees = U.agrees a; none = U.others a there }
+pub has_cached : (z : Sizes) (v : View) (I : TopicsInvariant z v) (a : ℕ) → a < actors_of z → UsableAt z v → Caches z v I a (v.hand a).cached
+has_cached z v I a there U = record { keeps = λ i lt opened asked none. none.0; agrees = U.agrees a; none = U.others a there }
 
 -- A flush leaves none where there is none.
 flushed_none : (k : Kind) (c : Buffer Translation) (x : ℕ) → c.items ≡ [] → (flushed k c x).items ≡ []
@@ -190,19 +191,19 @@ module _ (z : Sizes) (v : View) (a note : ℕ) (c : Buffer Translation) (g : Hel
   behind step = record g { topics = topics step; cached = cached step }
 
   -- Nothing of the frames of the actor's invalidation is cached, where its page's host word changes.
-  clean_for : {cached : List Translation} (step : PartStep) (k : ℕ) (stay : Stay) → IsPart z v a step → k < z.vcpus
-      → FlushFor h.topics k (before k) stay cached → may_use (before k) stay ≡ true → CleanFor step z.vcpus h.topics cached
-  clean_for (part.Change new_) k stay S low F may =
+  clean_for : (cached : List Translation) (step : PartStep) (k : ℕ) (stay : Stay) → IsPart z v a step → k < z.vcpus
+      → FlushFor (λ own_ v. IsClean own_ cached) h.topics k (before k) stay → may_use (before k) stay ≡ true → CleanFor step z.vcpus h.topics cached
+  clean_for cached (part.Change new_) k stay S low F may =
       let sizes : h.state.sizes.vcpus ≡ z.vcpus = ap (λ (y : Sizes). y.vcpus) S.sizes in
       (F (page_empty h.topics _ S.needs.0.opened (on_it (page_looked h.topics.host) h.topics.invalidations.own.pages S.needs.0.invalid))).awaits
       (omega (arith, low, sizes, S.needs.0.asked)) (omega (arith, low, sizes, S.needs.0.awaited)) may
-  clean_for part.ChangeNext k stay S low F may =
+  clean_for cached part.ChangeNext k stay S low F may =
       let sizes : h.state.sizes.vcpus ≡ z.vcpus = ap (λ (y : Sizes). y.vcpus) S.sizes in
       (F (some_empty h.topics S.needs.opened (ap is_some S.needs.is))).awaits (omega (arith, low, sizes, S.needs.asked))
       (omega (arith, low, sizes, S.needs.awaited)) may
-  clean_for part.Publish k stay S low F may = λ opened asked awaited.
+  clean_for cached part.Publish k stay S low F may = λ opened asked awaited.
       (F (slot_empty h.topics opened S.needs.none_retired)).awaits (omega (arith, low, asked)) (omega (arith, low, awaited)) may
-  clean_for _ k stay S low F may = tt
+  clean_for cached _ k stay S low F may = tt
 
   agrees_after : (step : PartStep) (kept : List Translation) → IsPart z v a step → TopicsInvariant z v
       → CleanFor step z.vcpus h.topics kept → Agrees v.words kept → Agrees (words step) kept
@@ -274,22 +275,22 @@ module _ (z : Sizes) (v : View) (a note : ℕ) (c : Buffer Translation) (g : Hel
     own_used (part.Ask index) S all may = all (asks_of index a) (used_of h.topics.stay index a may)
     own_used _ S all may = all (λ asks. asks) may
 
-  pub part_usable : (step : PartStep) → IsPart z v a step → TopicsInvariant z v → Caches z v a c → FlushAt z v → UsableAt z v
+  pub part_usable : (step : PartStep) → IsPart z v a step → (I : TopicsInvariant z v) → Caches z v I a c → FlushAt z v → UsableAt z v
       → UsableAt z (record { words = words step; hand = upd v.hand a (behind step) })
   part_usable step S I C F U = each_usable z v a (words step) (behind step) own others (λ high. flushed_none _ c _ (C.none high)) U
     where
       own : a < z.vcpus → may_use (states step a) (topics step).stay ≡ true → Agrees (words step) (cached step).items
       own low = own_used (IsTranslationFor (words step area.Pool) (words step area.Host) (words step area.Slots 0)) step S
           (λ asks may. agrees_after step c.items S I
-          (clean_for step a h.topics.stay S low (λ opened. cached_more (C.keeps a S.there opened) (F a a S.there low opened)) may) (C.agrees low may))
+          (clean_for c.items step a h.topics.stay S low (λ opened. flushed_more (C.keeps a S.there opened) (both_flushed z v I F a a S.there low opened)) may) (C.agrees low may))
 
       others : (k : ℕ) → k < z.vcpus → k ≢ a → may_use (states step k) (v.hand k).topics.stay ≡ true → Agrees (words step) (v.hand k).cached.items
       others k low ne may =
           let stay : Stay = (v.hand k).topics.stay in
           let was : may_use (before k) stay ≡ true = other_used step stay k ne may in
-          agrees_after step (v.hand k).cached.items S I (clean_for step k stay S low (F a k S.there low) was) (U.agrees k low was)
+          agrees_after step (v.hand k).cached.items S I (clean_for (v.hand k).cached.items step k stay S low (F a k S.there low) was) (U.agrees k low was)
 
 -- A touch leaves all but what is cached before it.
-pub touch_usable : (z : Sizes) (v : View) (a : ℕ) (c : Buffer Translation) (g : Held) → Caches z v a c → UsableAt z v
+pub touch_usable : (z : Sizes) (v : View) (a : ℕ) (I : TopicsInvariant z v) (c : Buffer Translation) (g : Held) → Caches z v I a c → UsableAt z v
     → UsableAt z (record { words = v.words; hand = upd v.hand a (record g { topics = (v.hand a).topics; cached = c }) })
-touch_usable z v a c g C U = each_usable z v a v.words (record g { topics = (v.hand a).topics; cached = c }) C.agrees (λ k low ne. U.agrees k low) C.none U
+touch_usable z v a I c g C U = each_usable z v a v.words (record g { topics = (v.hand a).topics; cached = c }) C.agrees (λ k low ne. U.agrees k low) C.none U

@@ -9,6 +9,7 @@ use Rattle.mmu_core.specs.invariant.TopicsInvariant.{OwnLooksPart, SawWriter, Se
 use Rattle.mmu_core.specs.invariant.TopicsInvariant.{StatesPart, TopicsInvariantOf, SetsPart, OldSetsPart, PathPart, UsePart, stands, CountPart}
 use Rattle.mmu_core.specs.invariant.TopicsInvariant.{CheckedPart, HeldSlotsPart, KnownRangePart, LoadedPart, LookedFramesPart, PassedPart, RangePart}
 use Rattle.mmu_core.specs.invariant.TopicsInvariant.{ChangesPart, CollectedPart, IsLowRow, OwnPagesPart, OwnRowsPart}
+use Rattle.mmu_core.specs.invariant.TopicsInvariant.{LinkedPart, ReachFlushPart, ReachPart}
 use Rattle.mmu_core.specs.invariant.TopicsInvariant.{RunsPart, ScopePart, SlotScopePart, SweptPart, ZappedPart}
 
 pub same_topics : (z : Sizes) (lock root slots seq count start end_ : ℕ) (states map frame_map host role pool : ℕ → ℕ) (hand other : ℕ → Held)
@@ -28,6 +29,8 @@ same_topics z lock root slots seq count start end_ states map frame_map host rol
   filled = subst (λ (t : ℕ → Topics). FilledPart (actors_of z) role pool (λ i. (t i).owned)) (sym same) I.filled;
   held = subst (λ (t : ℕ → Topics). (i : ℕ) → i < actors_of z → HeldPart (stands I.up I.spot) (t i)) (sym same) I.held;
   paths = subst (λ (t : ℕ → Topics). (i : ℕ) → i < actors_of z → PathPart (stands I.up I.spot) (t i).walk) (sym same) I.paths;
+  linked = subst (λ (t : ℕ → Topics). (i : ℕ) → i < actors_of z → LinkedPart I.up root (t i)) (sym same) I.linked;
+  reach = subst (λ (t : ℕ → Topics). ReachPart z.vcpus I.up I.spot pool host slots t) (sym same) I.reach;
   owed = subst (λ (t : ℕ → Topics). (i : ℕ) → i < actors_of z → OwedPart (t i)) (sym same) I.owed;
   sets = subst (λ (t : ℕ → Topics). SetsPart (actors_of z) slots t) (sym same) I.sets;
   old_sets = subst (λ (t : ℕ → Topics). OldSetsPart z (actors_of z) pool (λ i. (t i).retired)) (sym same) I.old_sets;
@@ -46,6 +49,7 @@ same_topics z lock root slots seq count start end_ states map frame_map host rol
   passed = subst (λ (t : ℕ → Topics). (i : ℕ) → i < actors_of z → PassedPart pool (t i)) (sym same) I.passed;
   scopes = subst (λ (t : ℕ → Topics). ScopePart (actors_of z) pool slots t) (sym same) I.scopes;
   slot_scopes = subst (λ (t : ℕ → Topics). SlotScopePart (actors_of z) pool slots t) (sym same) I.slot_scopes;
+  reach_flushed = subst (λ (t : ℕ → Topics). ReachFlushPart (actors_of z) z.vcpus I.up I.spot pool states t) (sym same) I.reach_flushed;
   runs = subst (λ (t : ℕ → Topics). RunsPart z (actors_of z) host t) (sym same) I.runs;
   own_pages = subst (λ (t : ℕ → Topics). OwnPagesPart z (actors_of z) host t) (sym same) I.own_pages;
   changes = subst (λ (t : ℕ → Topics). ChangesPart (actors_of z) host t) (sym same) I.changes;

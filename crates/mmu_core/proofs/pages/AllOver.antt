@@ -60,7 +60,7 @@ through_of Outside P hangs = absurd hangs
 through_of (Owned i) P hangs = absurd hangs
 through_of (OldSet i) P hangs = absurd hangs
 
-hangs_by : (up : ℕ → Use) (m l k j links : ℕ) → up l ≡ Under k j → Below up m links k → Below up m (suc links) l
+pub hangs_by : (up : ℕ → Use) (m l k j links : ℕ) → up l ≡ Under k j → Below up m links k → Below up m (suc links) l
 hangs_by up m l k j links is chain = subst (λ u. through u (Below up m links)) (sym is) chain
 
 -- Who reaches what is reached reaches it.

@@ -1,6 +1,6 @@
 -- Each leaf to which links lead from the root is the one that slots and host give the guest frames that it is over: each step of a part keeps it.
 use Rattle.std.proofs.Common.{◌≡◌, ◌+◌, ◌*◌, ◌/◌, ◌<◌, ℕ, refl, sym, subst, ap, ◌∙◌, arith, ◌≤◌, ◌⊎◌, ◌≢◌, inl, inr}
-use Rattle.std.specs.Prelude.{Some, false, Bool, true, not, ◌&&◌}
+use Rattle.std.specs.Prelude.{Some, false, Bool, true, is_some, not, ◌&&◌}
 use Rattle.core_views.specs.declared.sizes.Sizes.{Sizes}
 use Rattle.spte_words.specs.declared.area.Area.TheVariants as area
 use Rattle.spte_words.specs.declared.spte_kind.SpteKind.TheVariants as entry_kind
@@ -28,17 +28,17 @@ use Rattle.mmu_core.proofs.words.HostFrames.{first_small}
 use Rattle.mmu_core.proofs.words.HostStays.{host_stays}
 use Rattle.mmu_core.proofs.words.PartWords.{areas_stay, slots_are, slots_behind}
 use Rattle.mmu_core.proofs.pages.Standing.{spot_after, spot_of, up_after}
-use Rattle.mmu_core.proofs.held.KeptEmpty.{page_empty, slot_empty}
+use Rattle.mmu_core.proofs.held.KeptEmpty.{page_empty, slot_empty, some_empty}
 use Rattle.mmu_core.proofs.held.FreshFrames.{behind_it, leaf_brought, leaf_same}
 use Rattle.mmu_core.proofs.pages.PutLeaves.{put_leaf}
 use Rattle.part_steps.specs.InvalidationRange.{page_looked}
-use Rattle.mmu_core.specs.invariant.InvalidatedPart.{SlotGives}
+use Rattle.mmu_core.specs.invariant.InvalidatedPart.{IsNoLeafIn, SlotGives}
 use Rattle.mmu_core.proofs.machine.Columns.{same_or}
 use Rattle.part_steps.specs.PartHoldings.{is_fixable}
 use Rattle.mmu_core.proofs.forms.access.FaultSame.{both}
 use Rattle.mmu_core.proofs.held.NextPages.{next_on_own, next_page, next_words}
 use Rattle.mmu_core.proofs.held.PageRuns.{on_it, some_run}
-use Rattle.core_views.specs.Sizes.{AreSizes, actors_of}
+use Rattle.core_views.specs.Sizes.{actors_of}
 use Rattle.part_steps.specs.PageRuns.{IsOnRun}
 
 -- It says nothing of what is no leaf.
@@ -120,145 +120,179 @@ new_leaf z v a (part.Protect gfn) S I = λ found other leaf was now_.
 new_leaf z v a (part.Leaf gfn write) S I = λ won other over leaf. put_leaf z v a gfn write other S I over
 new_leaf z v a _ S I = tt
 
--- After a step that publishes no slot set and changes no host word.
-quiet_leaves : (z : Sizes) (v : View) (a : ℕ) (step : PartStep) (note : ℕ) → IsPart z v a step → (I : TopicsInvariant z v) → changes_word step ≡ false
-    → is_publish step ≡ false
-    → AllOver (up_after step a (v.hand a).topics v I.up) (spot_after step (v.hand a).topics v I.spot) ((part_stepped a step note v).words area.Pool)
-    ((part_stepped a step note v).words area.Root 0)
-    (LeafIsFor ((part_stepped a step note v).words area.Pool) ((part_stepped a step note v).words area.Host) ((part_stepped a step note v).words area.Slots 0))
-quiet_leaves z v a step note S I other never =
-    let w : View = part_stepped a step note v in
-    let up : ℕ → Use = up_after step a (v.hand a).topics v I.up in
-    let spot : ℕ → Position = spot_after step (v.hand a).topics v I.spot in
-    let set : ℕ = v.words area.Slots 0 in
-    let before : ℕ → ℕ = v.words area.Pool in
-    let behind : ℕ = slots_behind step (v.hand a).topics set in
-    let host : ℕ → ℕ = v.words area.Host in
-    subst (λ (r : ℕ → ℕ). AllOver up spot (w.words area.Pool) (r 0) (LeafIsFor (w.words area.Pool) (w.words area.Host) (w.words area.Slots 0)))
-    (sym (areas_stay v a step note area.Root refl))
-    (subst (λ (h : ℕ → ℕ). AllOver up spot (w.words area.Pool) (v.words area.Root 0) (LeafIsFor (w.words area.Pool) h (w.words area.Slots 0)))
-    (sym (host_stays v a step note other))
-    (subst (λ s. AllOver up spot (w.words area.Pool) (v.words area.Root 0) (LeafIsFor (w.words area.Pool) host s)) (sym (slots_are v a step note))
-    (over_weaker up spot (w.words area.Pool) (v.words area.Root 0) (LeafIsFor before host set) (LeafIsFor (w.words area.Pool) host behind)
-    (λ level gfn word so leaf. leaf_stays before set (w.words area.Pool) behind (stays_live z v a step note never S I) host level gfn word (so leaf))
-    (over_step z v a step note S I (v.words area.Root 0) (LeafIsFor before host set) (ap is_table I.tree.top) (leaves_light before host set)
-    (leaves_inherited before host set) (new_leaf z v a step S I) I.leaves))))
+-- Of the frames of the actor's own invalidation there is no leaf below this table, where the step changes a host word; nor where it publishes a slot set, if the
+-- invalidation is flushed.
+abbrev pub EmptiedFor : (z : Sizes) (v : View) (a : ℕ) → TopicsInvariant z v → ℕ → PartStep → Type 0
+EmptiedFor z v a I m (part.Change new_) = AllOver I.up I.spot (v.words area.Pool) m (IsNoLeafIn (v.hand a).topics.invalidations.own)
+EmptiedFor z v a I m part.ChangeNext = AllOver I.up I.spot (v.words area.Pool) m (IsNoLeafIn (v.hand a).topics.invalidations.own)
+EmptiedFor z v a I m part.Publish =
+    (v.hand a).topics.invalidations.opened ≡ true → z.vcpus ≤ (v.hand a).topics.flush.asked → z.vcpus ≤ (v.hand a).topics.flush.awaited
+    → AllOver I.up I.spot (v.words area.Pool) m (IsNoLeafIn (v.hand a).topics.invalidations.own)
+EmptiedFor z v a I m _ = Unit {0}
 
--- Of a slot that goes with a publication there is no leaf: its guest frames were zapped.
-published_leaves : (z : Sizes) (v : View) (a note : ℕ) → IsPart z v a part.Publish → (I : TopicsInvariant z v)
-    → AllOver (up_after part.Publish a (v.hand a).topics v I.up) (spot_after part.Publish (v.hand a).topics v I.spot)
-    ((part_stepped a part.Publish note v).words area.Pool) (v.words area.Root 0)
-    (LeafIsFor (v.words area.Pool) (v.words area.Host) (page_owned (v.hand a).topics.owned))
-published_leaves z v a note S I =
-    over_step z v a part.Publish note S I (v.words area.Root 0) (LeafIsFor (v.words area.Pool) (v.words area.Host) page) (ap is_table I.tree.top)
-    (leaves_light (v.words area.Pool) (v.words area.Host) page) (leaves_inherited (v.words area.Pool) (v.words area.Host) page) tt
-    (λ table entry gfn R O leaf.
-    let is = I.leaves table entry gfn R O leaf in stays table entry gfn R O leaf is (S.replaces.stay is.id is.slot is.live))
-  where
-    page : ℕ
-    page = page_owned (v.hand a).topics.owned
+-- Each leaf below a table agrees: before a step, and after it.
+module _ (z : Sizes) (v : View) (a : ℕ) (I : TopicsInvariant z v) (m : ℕ) (table : is_table (I.up m) ≡ true) where
+  abbrev AgreesBelow : Type 0
+  AgreesBelow = AllOver I.up I.spot (v.words area.Pool) m (LeafIsFor (v.words area.Pool) (v.words area.Host) (v.words area.Slots 0))
 
-    stays : (table entry gfn : ℕ) → HangsBelow I.up (v.words area.Root 0) table → IsEntryOver (I.spot table) entry gfn
-        → kind_of (I.spot table).level (v.words area.Pool (pool_index table entry)) ≡ entry_kind.Leaf
-        → (L : IsLeafFor (v.words area.Pool) (v.words area.Host) (v.words area.Slots 0) (I.spot table).level gfn
-        (v.words area.Pool (pool_index table entry)))
-        → IsLiveIn (v.words area.Pool) page L.id L.slot ⊎ IsFlushedOut z.vcpus L.slot (v.hand a).topics
-        → IsLeafFor (v.words area.Pool) (v.words area.Host) page (I.spot table).level gfn (v.words area.Pool (pool_index table entry))
-    stays table entry gfn R O leaf L (inl same) = record {
-      id = L.id;
-      slot = L.slot;
-      live = same;
-      holds = L.holds;
-      run = L.run;
-      writes = L.writes;
-      first = L.first;
-      is = L.is;
-      frame = L.frame;
-      present = L.present;
-      small = L.small;
-    }
-    stays table entry gfn R O leaf L (inr F) =
-        let some = S.is_sizes.some in
-        let of_it = flushed_within z.vcpus gfn L.slot (v.hand a).topics F L.holds in
-        absurd (I.zapped a S.there (slot_empty (v.hand a).topics F.opened S.needs.none_retired) (omega (arith, some, F.asked)) table entry gfn R O of_it leaf)
+  abbrev AgreesBehind : PartStep → ℕ → Type 0
+  AgreesBehind step note =
+      AllOver (up_after step a (v.hand a).topics v I.up) (spot_after step (v.hand a).topics v I.spot) ((part_stepped a step note v).words area.Pool) m
+      (LeafIsFor ((part_stepped a step note v).words area.Pool) ((part_stepped a step note v).words area.Host) ((part_stepped a step note v).words area.Slots 0))
 
--- Of a page of an open invalidation there is no leaf, once flushes were asked for: its guest frame was zapped. So leaves agree whatever its word is.
-emptied_leaves : (z : Sizes) (v : View) (a page now_ : ℕ) (I : TopicsInvariant z v) → a < actors_of z → AreSizes z
-    → (v.hand a).topics.invalidations.opened ≡ true → IsOnRun page (v.hand a).topics.invalidations.own.pages → z.vcpus ≤ (v.hand a).topics.flush.asked
-    → AllOver I.up I.spot (v.words area.Pool) (v.words area.Root 0)
-    (LeafIsFor (v.words area.Pool) (upd (v.words area.Host) page now_) (v.words area.Slots 0))
-emptied_leaves z v a page now_ I there sizes opened on all table entry gfn R O leaf =
-    let is = I.leaves table entry gfn R O leaf in by is (same_or (page_of is.slot gfn) page)
-  where
-    word : ℕ
-    word = v.words area.Pool (pool_index table entry)
+  -- After a step that publishes no slot set and changes no host word.
+  quiet_leaves : (step : PartStep) (note : ℕ) → IsPart z v a step → changes_word step ≡ false → is_publish step ≡ false → AgreesBelow → AgreesBehind step note
+  quiet_leaves step note S other never A =
+      let w : View = part_stepped a step note v in
+      let up : ℕ → Use = up_after step a (v.hand a).topics v I.up in
+      let spot : ℕ → Position = spot_after step (v.hand a).topics v I.spot in
+      let set : ℕ = v.words area.Slots 0 in
+      let before : ℕ → ℕ = v.words area.Pool in
+      let behind : ℕ = slots_behind step (v.hand a).topics set in
+      let host : ℕ → ℕ = v.words area.Host in
+      subst (λ (h : ℕ → ℕ). AllOver up spot (w.words area.Pool) m (LeafIsFor (w.words area.Pool) h (w.words area.Slots 0)))
+      (sym (host_stays v a step note other))
+      (subst (λ s. AllOver up spot (w.words area.Pool) m (LeafIsFor (w.words area.Pool) host s)) (sym (slots_are v a step note))
+      (over_weaker up spot (w.words area.Pool) m (LeafIsFor before host set) (LeafIsFor (w.words area.Pool) host behind)
+      (λ level gfn word so leaf. leaf_stays before set (w.words area.Pool) behind (stays_live z v a step note never S I) host level gfn word (so leaf))
+      (over_step z v a step note S I m (LeafIsFor before host set) table (leaves_light before host set)
+      (leaves_inherited before host set) (new_leaf z v a step S I) A)))
 
-    asked : 1 ≤ (v.hand a).topics.flush.asked
-    asked = let some = sizes.some in omega (arith, some, all)
+  -- Of a slot that goes with a publication there is no leaf.
+  published_leaves : (note : ℕ) → IsPart z v a part.Publish → EmptiedFor z v a I m part.Publish → AgreesBelow → AgreesBehind part.Publish note
+  published_leaves note S emptied A =
+      over_step z v a part.Publish note S I m (LeafIsFor (v.words area.Pool) (v.words area.Host) page) table
+      (leaves_light (v.words area.Pool) (v.words area.Host) page) (leaves_inherited (v.words area.Pool) (v.words area.Host) page) tt
+      (λ table entry gfn R O leaf.
+      let is = A table entry gfn R O leaf in stays table entry gfn R O leaf is (S.replaces.stay is.id is.slot is.live))
+    where
+      page : ℕ
+      page = page_owned (v.hand a).topics.owned
 
-    level : ℕ
-    level = (I.spot table).level
+      stays : (table entry gfn : ℕ) → HangsBelow I.up m table → IsEntryOver (I.spot table) entry gfn
+          → kind_of (I.spot table).level (v.words area.Pool (pool_index table entry)) ≡ entry_kind.Leaf
+          → (L : IsLeafFor (v.words area.Pool) (v.words area.Host) (v.words area.Slots 0) (I.spot table).level gfn
+          (v.words area.Pool (pool_index table entry)))
+          → IsLiveIn (v.words area.Pool) page L.id L.slot ⊎ IsFlushedOut z.vcpus L.slot (v.hand a).topics
+          → IsLeafFor (v.words area.Pool) (v.words area.Host) page (I.spot table).level gfn (v.words area.Pool (pool_index table entry))
+      stays table entry gfn R O leaf L (inl same) = record {
+        id = L.id;
+        slot = L.slot;
+        live = same;
+        holds = L.holds;
+        run = L.run;
+        writes = L.writes;
+        first = L.first;
+        is = L.is;
+        frame = L.frame;
+        present = L.present;
+        small = L.small;
+      }
+      stays table entry gfn R O leaf L (inr F) =
+          absurd (emptied F.opened F.asked F.awaited table entry gfn R O (flushed_within z.vcpus gfn L.slot (v.hand a).topics F L.holds) leaf)
 
-    by : (L : IsLeafFor (v.words area.Pool) (v.words area.Host) (v.words area.Slots 0) level gfn word)
-        → (page_of L.slot gfn ≡ page) ⊎ (page_of L.slot gfn ≢ page)
-        → IsLeafFor (v.words area.Pool) (upd (v.words area.Host) page now_) (v.words area.Slots 0) level gfn word
-    by L (inl e) =
-        let B = behind_it L.slot gfn L.holds in
-        let given : SlotGives (v.words area.Pool) (v.words area.Slots 0) (page_of L.slot gfn) gfn =
-        record { id = L.id; slot = L.slot; live = L.live; has = B.0; is = B.1 } in
-        absurd (I.zapped a there (page_empty (v.hand a).topics page opened on) asked table entry gfn R O
-        ((I.scopes a there opened (some_run page (v.hand a).topics.invalidations.own.pages on)).covers page gfn on
-        (subst (λ p. SlotGives (v.words area.Pool) (v.words area.Slots 0) p gfn) e given)) leaf)
-    by L (inr ne) = leaf_same (v.words area.Pool) (v.words area.Host) (v.words area.Slots 0) page _ level gfn word L (λ e. absurd (ne e))
+  -- Of a page of an open invalidation there is no leaf. So leaves agree whatever its word is.
+  emptied_leaves : (page now_ : ℕ) → a < actors_of z → (v.hand a).topics.invalidations.opened ≡ true → IsOnRun page (v.hand a).topics.invalidations.own.pages
+      → AllOver I.up I.spot (v.words area.Pool) m (IsNoLeafIn (v.hand a).topics.invalidations.own) → AgreesBelow
+      → AllOver I.up I.spot (v.words area.Pool) m (LeafIsFor (v.words area.Pool) (upd (v.words area.Host) page now_) (v.words area.Slots 0))
+  emptied_leaves page now_ there opened on emptied A table entry gfn R O leaf =
+      let is = A table entry gfn R O leaf in by is (same_or (page_of is.slot gfn) page)
+    where
+      word : ℕ
+      word = v.words area.Pool (pool_index table entry)
 
--- So they do where it is changed.
-changed_leaves : (z : Sizes) (v : View) (a new_ note : ℕ) → IsPart z v a (part.Change new_) → (I : TopicsInvariant z v)
-    → AllOver I.up I.spot (v.words area.Pool) (v.words area.Root 0)
-    (LeafIsFor (v.words area.Pool) ((part_stepped a (part.Change new_) note v).words area.Host) (v.words area.Slots 0))
-changed_leaves z v a new_ note S I =
+      level : ℕ
+      level = (I.spot table).level
+
+      by : (L : IsLeafFor (v.words area.Pool) (v.words area.Host) (v.words area.Slots 0) level gfn word)
+          → (page_of L.slot gfn ≡ page) ⊎ (page_of L.slot gfn ≢ page)
+          → IsLeafFor (v.words area.Pool) (upd (v.words area.Host) page now_) (v.words area.Slots 0) level gfn word
+      by L (inl e) =
+          let B = behind_it L.slot gfn L.holds in
+          let given : SlotGives (v.words area.Pool) (v.words area.Slots 0) (page_of L.slot gfn) gfn =
+          record { id = L.id; slot = L.slot; live = L.live; has = B.0; is = B.1 } in
+          absurd (emptied table entry gfn R O
+          ((I.scopes a there opened (some_run page (v.hand a).topics.invalidations.own.pages on)).covers page gfn on
+          (subst (λ p. SlotGives (v.words area.Pool) (v.words area.Slots 0) p gfn) e given)) leaf)
+      by L (inr ne) = leaf_same (v.words area.Pool) (v.words area.Host) (v.words area.Slots 0) page _ level gfn word L (λ e. absurd (ne e))
+
+  -- So they do where it is changed.
+  changed_leaves : (new_ note : ℕ) → IsPart z v a (part.Change new_) → EmptiedFor z v a I m (part.Change new_) → AgreesBelow
+      → AgreesBehind (part.Change new_) note
+  changed_leaves new_ note S emptied A =
+      let page : ℕ = page_looked (v.hand a).topics.host in
+      emptied_leaves page _ S.there S.needs.0.opened (on_it page (v.hand a).topics.invalidations.own.pages S.needs.0.invalid) emptied A
+
+  -- Nor is there of a page of a run.
+  next_leaves : (note : ℕ) → IsPart z v a part.ChangeNext → EmptiedFor z v a I m part.ChangeNext → AgreesBelow → AgreesBehind part.ChangeNext note
+  next_leaves note S emptied A =
+      subst (λ (h : ℕ → ℕ). AllOver I.up I.spot (v.words area.Pool) m (LeafIsFor (v.words area.Pool) h (v.words area.Slots 0)))
+      (sym (next_words z v a S I note)) (emptied_leaves (next_page z v a S I) _ S.there S.needs.opened (next_on_own z v a S I) emptied A)
+
+  -- Of a page that is brought in there is none either: it wasn't present.
+  brought_leaves : (note : ℕ) → IsPart z v a part.Bring → AgreesBelow → AgreesBehind part.Bring note
+  brought_leaves note S A =
+      over_weaker I.up I.spot (v.words area.Pool) m (LeafIsFor (v.words area.Pool) (v.words area.Host) (v.words area.Slots 0))
+      (LeafIsFor (v.words area.Pool) ((part_stepped a part.Bring note v).words area.Host) (v.words area.Slots 0))
+      (λ level gfn word so leaf.
+      leaf_brought (v.words area.Pool) (v.words area.Host) (v.words area.Slots 0) (page_looked (v.hand a).topics.host) (word_looked (v.hand a).topics.host)
+      level gfn word S.needs.absent (so leaf)) A
+
+  pub agrees_still : (step : PartStep) (note : ℕ) → IsPart z v a step → EmptiedFor z v a I m step → AgreesBelow → AgreesBehind step note
+  agrees_still part.Bring note S emptied A = brought_leaves note S A
+  agrees_still (part.Change new_) note S emptied A = changed_leaves new_ note S emptied A
+  agrees_still part.ChangeNext note S emptied A = next_leaves note S emptied A
+  agrees_still part.Publish note S emptied A = published_leaves note S emptied A
+  agrees_still step note S emptied A = quiet_leaves step note S refl refl A
+
+-- Below the root there is none: the frames were zapped.
+pub root_emptied : (z : Sizes) (v : View) (a : ℕ) (step : PartStep) → IsPart z v a step → (I : TopicsInvariant z v)
+    → EmptiedFor z v a I (v.words area.Root 0) step
+root_emptied z v a (part.Change new_) S I =
     let page : ℕ = page_looked (v.hand a).topics.host in
-    emptied_leaves z v a page _ I S.there S.is_sizes S.needs.0.opened (on_it page (v.hand a).topics.invalidations.own.pages S.needs.0.invalid)
-    (subst (λ (y : Sizes). y.vcpus ≤ (v.hand a).topics.flush.asked) S.sizes S.needs.0.asked)
-
--- Nor is there of a page of a run.
-next_leaves : (z : Sizes) (v : View) (a note : ℕ) → IsPart z v a part.ChangeNext → (I : TopicsInvariant z v)
-    → AllOver I.up I.spot (v.words area.Pool) (v.words area.Root 0)
-    (LeafIsFor (v.words area.Pool) ((part_stepped a part.ChangeNext note v).words area.Host) (v.words area.Slots 0))
-next_leaves z v a note S I =
-    subst (λ (h : ℕ → ℕ). AllOver I.up I.spot (v.words area.Pool) (v.words area.Root 0) (LeafIsFor (v.words area.Pool) h (v.words area.Slots 0)))
-    (sym (next_words z v a S I note))
-    (emptied_leaves z v a (next_page z v a S I) _ I S.there S.is_sizes S.needs.opened (next_on_own z v a S I)
-    (subst (λ (y : Sizes). y.vcpus ≤ (v.hand a).topics.flush.asked) S.sizes S.needs.asked))
-
--- Of a page that is brought in there is none either: it wasn't present.
-brought_leaves : (z : Sizes) (v : View) (a note : ℕ) → IsPart z v a part.Bring → (I : TopicsInvariant z v)
-    → AllOver I.up I.spot (v.words area.Pool) (v.words area.Root 0)
-    (LeafIsFor (v.words area.Pool) ((part_stepped a part.Bring note v).words area.Host) (v.words area.Slots 0))
-brought_leaves z v a note S I =
-    over_weaker I.up I.spot (v.words area.Pool) (v.words area.Root 0) (LeafIsFor (v.words area.Pool) (v.words area.Host) (v.words area.Slots 0))
-    (LeafIsFor (v.words area.Pool) ((part_stepped a part.Bring note v).words area.Host) (v.words area.Slots 0))
-    (λ level gfn word so leaf.
-    leaf_brought (v.words area.Pool) (v.words area.Host) (v.words area.Slots 0) (page_looked (v.hand a).topics.host) (word_looked (v.hand a).topics.host)
-    level gfn word S.needs.absent (so leaf)) I.leaves
+    let some = S.is_sizes.some in
+    let sizes : (v.hand a).state.sizes.vcpus ≡ z.vcpus = ap (λ (y : Sizes). y.vcpus) S.sizes in
+    let asked = S.needs.0.asked in
+    I.zapped a S.there (page_empty (v.hand a).topics page S.needs.0.opened (on_it page (v.hand a).topics.invalidations.own.pages S.needs.0.invalid))
+    (omega (arith, some, sizes, asked))
+root_emptied z v a part.ChangeNext S I =
+    let some = S.is_sizes.some in
+    let sizes : (v.hand a).state.sizes.vcpus ≡ z.vcpus = ap (λ (y : Sizes). y.vcpus) S.sizes in
+    let asked = S.needs.asked in
+    I.zapped a S.there (some_empty (v.hand a).topics S.needs.opened (ap is_some S.needs.is)) (omega (arith, some, sizes, asked))
+root_emptied z v a part.Publish S I = λ opened asked awaited.
+    let some = S.is_sizes.some in
+    I.zapped a S.there (slot_empty (v.hand a).topics opened S.needs.none_retired) (omega (arith, some, asked))
+root_emptied z v a _ S I = tt
 
 pub leaves_kept : (z : Sizes) (v : View) (a : ℕ) (step : PartStep) (note : ℕ) → IsPart z v a step → (I : TopicsInvariant z v)
     → AllOver (up_after step a (v.hand a).topics v I.up) (spot_after step (v.hand a).topics v I.spot) ((part_stepped a step note v).words area.Pool)
     ((part_stepped a step note v).words area.Root 0)
     (LeafIsFor ((part_stepped a step note v).words area.Pool) ((part_stepped a step note v).words area.Host) ((part_stepped a step note v).words area.Slots 0))
-leaves_kept z v a part.Bring note S I = brought_leaves z v a note S I
-leaves_kept z v a (part.Change new_) note S I = changed_leaves z v a new_ note S I
-leaves_kept z v a part.ChangeNext note S I = next_leaves z v a note S I
-leaves_kept z v a part.Publish note S I = published_leaves z v a note S I
-leaves_kept z v a step note S I = quiet_leaves z v a step note S I refl refl
+leaves_kept z v a step note S I =
+    let w : View = part_stepped a step note v in
+    subst (λ (r : ℕ → ℕ). AllOver (up_after step a (v.hand a).topics v I.up) (spot_after step (v.hand a).topics v I.spot) (w.words area.Pool) (r 0)
+    (LeafIsFor (w.words area.Pool) (w.words area.Host) (w.words area.Slots 0)))
+    (sym (areas_stay v a step note area.Root refl))
+    (agrees_still z v a I (v.words area.Root 0) (ap is_table I.tree.top) step note S (root_emptied z v a step S I) I.leaves)
 
--- A leaf in a linked table that stands here is the one for each guest frame that its entry is over.
+-- A leaf in a table below which leaves agree, and that stands here, is the one for each guest frame that its entry is over.
+pub leaf_below : (z : Sizes) (v : View) (I : TopicsInvariant z v) (m k level prefix entry gfn : ℕ)
+    → AllOver I.up I.spot (v.words area.Pool) m (LeafIsFor (v.words area.Pool) (v.words area.Host) (v.words area.Slots 0))
+    → HangsBelow I.up m k → stands I.up I.spot k ≡ Some (at level prefix)
+    → entry < 512 → gfn / level_span level ≡ prefix * 512 + entry
+    → kind_of level (v.words area.Pool (pool_index k entry)) ≡ entry_kind.Leaf
+    → IsLeafFor (v.words area.Pool) (v.words area.Host) (v.words area.Slots 0) level gfn (v.words area.Pool (pool_index k entry))
+leaf_below z v I m k level prefix entry gfn A R at_k low over =
+    let here : I.spot k ≡ at level prefix = (spot_of I.up I.spot k (at level prefix) at_k).1 in
+    subst (λ (p : Position). LeafIsFor (v.words area.Pool) (v.words area.Host) (v.words area.Slots 0) p.level gfn (v.words area.Pool (pool_index k entry))) here
+    (A k entry gfn R
+    (low, subst (λ (p : Position). gfn / level_span p.level ≡ p.prefix * 512 + entry) (sym here) over))
+
+-- So is a leaf in a linked table.
 pub leaf_for : (z : Sizes) (v : View) (I : TopicsInvariant z v) (k level prefix entry gfn : ℕ) → HangsBelow I.up (v.words area.Root 0) k
     → stands I.up I.spot k ≡ Some (at level prefix)
     → entry < 512 → gfn / level_span level ≡ prefix * 512 + entry
     → kind_of level (v.words area.Pool (pool_index k entry)) ≡ entry_kind.Leaf
     → IsLeafFor (v.words area.Pool) (v.words area.Host) (v.words area.Slots 0) level gfn (v.words area.Pool (pool_index k entry))
-leaf_for z v I k level prefix entry gfn R at_k low over =
-    let here : I.spot k ≡ at level prefix = (spot_of I.up I.spot k (at level prefix) at_k).1 in
-    subst (λ (p : Position). LeafIsFor (v.words area.Pool) (v.words area.Host) (v.words area.Slots 0) p.level gfn (v.words area.Pool (pool_index k entry))) here
-    (I.leaves k entry gfn R
-    (low, subst (λ (p : Position). gfn / level_span p.level ≡ p.prefix * 512 + entry) (sym here) over))
+leaf_for z v I k level prefix entry gfn = leaf_below z v I (v.words area.Root 0) k level prefix entry gfn I.leaves

@@ -183,7 +183,7 @@ IsInTable (part.Sweep gfn) walk = 1 ≤ walk.level
 IsInTable (part.WalkAnew gfn) walk = (1 ≤ walk.level) × (walk.level ≤ 4) × (span_at 4 walk ≡ 0)
 IsInTable _ walk = Unit {0}
 
-in_table : (step : PartStep) (h : Held) → PartNeeds step h → (1 ≤ h.topics.walk.level → (h.topics.walk.level ≤ 4) × (span_at 4 h.topics.walk ≡ 0))
+pub in_table : (step : PartStep) (h : Held) → PartNeeds step h → (1 ≤ h.topics.walk.level → (h.topics.walk.level ≤ 4) × (span_at 4 h.topics.walk ≡ 0))
     → IsInTable step h.topics.walk
 in_table (part.Sweep gfn) h N top = N.there
 in_table (part.WalkAnew gfn) h N top = let T = top N.there in (N.there, T.0, T.1)

@@ -34,7 +34,7 @@ use Rattle.mmu_core.proofs.pages.PutLeaves.{put_meets_none}
 use Rattle.mmu_core.proofs.held.KeptEmpty.{changed_empty}
 
 -- It says nothing of what is no leaf.
-no_leaf_light : (own_ : Invalidated) → IsLight (IsNoLeafIn own_)
+pub no_leaf_light : (own_ : Invalidated) → IsLight (IsNoLeafIn own_)
 no_leaf_light own_ = record {
   absent = λ level gfn is_in leaf. let none = kind_of_absent level in cc (none, leaf);
   link = λ level gfn page upper small is_in leaf. let links = kind_of_table level page upper small in cc (links, leaf);
@@ -46,7 +46,7 @@ no_leaf_inherited own_ level gfn leaf upper most is so is_in child = so is_in is
 
 -- ---- A new leaf is of none of the frames.
 
-new_leaf : (z : Sizes) (v : View) (a i : ℕ) (step : PartStep) → IsPart z v a step → TopicsInvariant z v → i < actors_of z
+pub new_leaf : (z : Sizes) (v : View) (a i : ℕ) (step : PartStep) → IsPart z v a step → TopicsInvariant z v → i < actors_of z
     → keeps_empty (v.hand i).topics ≡ true → OfNewLeaf step (v.hand a).topics v (IsNoLeafIn (v.hand i).topics.invalidations.own)
 new_leaf z v a i (part.Fix gfn) S I lt empty = λ won other over none is_in leaf. none is_in S.needs.leaf
 new_leaf z v a i (part.Protect gfn) S I lt empty = λ found other was none is_in leaf. none is_in was

@@ -1,5 +1,5 @@
 -- At the start what holds of the machine's parts holds.
-use Rattle.std.proofs.Common.{◌≡◌, inl, ◌<◌, ◌%◌, ℕ, List, refl, sym, subst, ap, ◌∙◌, arith}
+use Rattle.std.proofs.Common.{◌≡◌, inl, ◌<◌, ◌≤◌, ◌%◌, ℕ, List, refl, sym, subst, ap, ◌∙◌, arith}
 use Rattle.std.proofs.lemmas.Bool.Decides.{nat_tests}
 use Rattle.std.specs.Prelude.{Bool, true, false, ◌==◌, nat_le, nat_lt, Option, Some, None}
 use Rattle.core_views.specs.declared.sizes.Sizes.{Sizes}
@@ -232,6 +232,12 @@ none_open_yet z lines w i start lt is =
     let closed : (hand_in mmu w i).topics.invalidations.opened ≡ false = ap (λ (t : Topics). t.invalidations.opened) (topics_are z lines w i start lt) in
     cc (is, closed)
 
+-- Nobody has come to a table.
+walks_none : (z : Sizes) (lines : List Line) (w : World Held) (i : ℕ) → IsStart z lines w → i < actors_of z
+    → 1 ≤ (hand_in mmu w i).topics.walk.level → ⊥
+walks_none z lines w i start lt from =
+    let none : (hand_in mmu w i).topics.walk.level ≡ 0 = ap (λ (t : Topics). t.walk.level) (topics_are z lines w i start lt) in omega (arith, none, from)
+
 pub start_topics : (z : Sizes) (lines : List Line) (w : World Held) → IsStart z lines w → TopicsInvariant z (view z w)
 start_topics z lines w start = record {
   up = start_up z.pool;
@@ -248,6 +254,9 @@ start_topics z lines w start = record {
       λ i lt. subst (HeldPart (stands (start_up z.pool) start_spot)) (sym (topics_are z lines w i start lt)) (held_first (stands (start_up z.pool) start_spot));
   paths = λ i lt. subst (λ (t : Topics). PathPart (stands (start_up z.pool) start_spot) t.walk) (sym (topics_are z lines w i start lt))
       (λ level from above most. absurd (omega (arith, from)));
+  linked = λ i lt alone out level from down most. absurd (walks_none z lines w i start lt from);
+  reach = λ k low guest from. absurd (walks_none z lines w k start (omega (arith, low)) from);
+  reach_flushed = λ i k lt low emptied. absurd (none_open_yet z lines w i start lt (empty_open (hand_in mmu w i).topics emptied));
   owed = λ i lt out. ap (λ (t : Topics). t.owed) (topics_are z lines w i start lt);
   sets = λ i k lt is. absurd (holds_none z lines w i k start lt is);
   old_sets = λ i k lt is. absurd (retires_none z lines w i k start lt is);

@@ -14,6 +14,7 @@ pub use Rattle.mmu_core.specs.invariant.InvalidationsPart.{CheckedPart, CountPar
 pub use Rattle.mmu_core.specs.invariant.InvalidatedPart.{CollectedPart, PassedPart, RangePart, ScopePart, SweptPart, ZappedPart}
 pub use Rattle.mmu_core.specs.invariant.LockPart.{LockPart, SawWriter}
 pub use Rattle.mmu_core.specs.invariant.PoolPart.{FilledPart, IsFilled, UsePart, is_retired}
+pub use Rattle.mmu_core.specs.invariant.ReachPart.{LinkedPart, ReachFlushPart, ReachPart}
 pub use Rattle.mmu_core.specs.invariant.RunsPart.{ChangesPart, OwnPagesPart, OwnRowsPart, RunsPart, SlotScopePart}
 pub use Rattle.mmu_core.specs.invariant.SearchPart.{HeldSlotsPart, IsInvalidating, LookPart, SearchPart}
 pub use Rattle.mmu_core.specs.invariant.StatesPart.{StatesPart}
@@ -34,6 +35,8 @@ pub record TopicsInvariantOf (z : Sizes) (lock root slots seq count start end_ :
   pub filled : FilledPart (actors_of z) role pool (λ i. (hand i).topics.owned)
   pub held : (i : ℕ) → i < actors_of z → HeldPart (stands up spot) (hand i).topics
   pub paths : (i : ℕ) → i < actors_of z → PathPart (stands up spot) (hand i).topics.walk
+  pub linked : (i : ℕ) → i < actors_of z → LinkedPart up root (hand i).topics
+  pub reach : ReachPart z.vcpus up spot pool host slots (λ i. (hand i).topics)
   pub owed : (i : ℕ) → i < actors_of z → OwedPart (hand i).topics
   pub sets : SetsPart (actors_of z) slots (λ i. (hand i).topics)
   pub old_sets : OldSetsPart z (actors_of z) pool (λ i. (hand i).topics.retired)
@@ -54,6 +57,7 @@ pub record TopicsInvariantOf (z : Sizes) (lock root slots seq count start end_ :
   pub slot_scopes : SlotScopePart (actors_of z) pool slots (λ i. (hand i).topics)
   pub swept : SweptPart (actors_of z) up spot pool root (λ i. (hand i).topics)
   pub zapped : ZappedPart (actors_of z) up spot pool root (λ i. (hand i).topics)
+  pub reach_flushed : ReachFlushPart (actors_of z) z.vcpus up spot pool states (λ i. (hand i).topics)
   pub runs : RunsPart z (actors_of z) host (λ i. (hand i).topics)
   pub own_pages : OwnPagesPart z (actors_of z) host (λ i. (hand i).topics)
   pub changes : ChangesPart (actors_of z) host (λ i. (hand i).topics)

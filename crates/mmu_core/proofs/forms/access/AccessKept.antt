@@ -1,6 +1,6 @@
 -- The steps of an access keep the invariant.
 use Rattle.mmu_core.proofs.lines.OpenedStays.{access_opens_none, access_owns_none}
-use Rattle.std.proofs.Common.{ℕ, refl}
+use Rattle.std.proofs.Common.{ℕ, refl, ◌<◌}
 use Rattle.core_views.specs.declared.place.AccessPlace.{AccessPlace}
 use Rattle.core_views.specs.declared.place.AccessPlace.TheVariants.{Leave, Fault}
 use Rattle.core_views.specs.declared.place.FaultEnd.TheVariants as end_of
@@ -21,7 +21,7 @@ use Rattle.mmu_core.specs.forms.access.AccessKnows.{AccessKnows}
 use Rattle.mmu_core.specs.machine.Outcomes.{place_after}
 use Rattle.mmu_core.specs.invariant.TopicsInvariant.{TopicsInvariant}
 use Rattle.mmu_core.specs.machine.View.{View, answer_in, hand_after, stepped}
-use Rattle.mmu_core.proofs.forms.access.CachedKept.{cached_kept}
+use Rattle.mmu_core.proofs.forms.access.CachedKept.{cached_kept, vcpu_below}
 use Rattle.mmu_core.proofs.machine.Stepping.{IsStep}
 use Rattle.mmu_core.specs.invariant.Invariant.{Holds, Invariant}
 use Rattle.mmu_core.proofs.slots.LiveStays.{MakesParts}
@@ -74,7 +74,7 @@ access_kept z v a line p gfn word op S I P K makes knows =
             frames = λ may. access_owns_none h p gfn word op x (λ step is. (makes step is).needs) (L.frames refl);
           };
       holds = access_holds z _ (v.words area.Slots 0) p h gfn word op x (hand_after line (Access gfn word op) (place.Access p) h x);
-      cached = cached_kept z v a line p gfn word op S.there I P K;
+      cached = cached_kept z v a line p gfn word op low I P K;
     }) knows
   where
     h : Held
@@ -82,6 +82,10 @@ access_kept z v a line p gfn word op S I P K makes knows =
 
     x : ℕ
     x = answer_in (access_task p h gfn word op) v.words
+
+    low : a < z.vcpus
+    low = subst (λ i. i < z.vcpus) (I.lines a S.there).index
+        (vcpu_below z h.state.actor gfn word op (subst (λ actor. IsCommandFor z actor (Access gfn word op)) S.own S.allowed))
 
 -- ---- all of it
 

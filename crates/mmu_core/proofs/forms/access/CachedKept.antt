@@ -4,6 +4,8 @@ use Rattle.std.proofs.lemmas.Bool.Decides.{nat_tests}
 use Rattle.std.proofs.lemmas.List.Elements.{All-cons, All-head, All-nil, All-tail, All-take}
 use Rattle.std.specs.Prelude.{All, Bool, true, false, ◌≢◌, ◌==◌, ◌&&◌, find, if◌then◌else◌, Some}
 use Rattle.circular_buffer.specs.Buffer.{Buffer, buffer}
+use Rattle.core_views.specs.declared.actor.Actor.{Actor}
+use Rattle.core_views.specs.declared.actor.Actor.TheVariants.{Vcpu}
 use Rattle.core_views.specs.declared.cache.Translation.{Translation}
 use Rattle.core_views.specs.declared.kind.Kind.{Kind}
 use Rattle.core_views.specs.declared.kind.StepKind.{StepKind}
@@ -12,14 +14,16 @@ use Rattle.core_views.specs.declared.place.AccessPlace.{AccessPlace}
 use Rattle.core_views.specs.declared.place.AccessPlace.TheVariants.{Walk}
 use Rattle.core_views.specs.declared.place.Place.TheVariants as place
 use Rattle.core_views.specs.declared.sizes.Sizes.{Sizes}
+use Rattle.core_views.specs.declared.topics.Stay.TheVariants.{Guest}
 use Rattle.core_views.specs.declared.topics.TableWalk.{TableWalk}
 use Rattle.core_views.specs.declared.trace.Command.TheVariants.{Access}
 use Rattle.core_views.specs.declared.trace.Line.{Line}
 use Rattle.core_views.specs.declared.trace.Op.{Op}
 use Rattle.core_views.specs.Held.{Held}
 use Rattle.core_views.specs.Kinds.{kind_named}
-use Rattle.core_views.specs.Sizes.{actors_of}
+use Rattle.core_views.specs.Sizes.{actors_of, index_of}
 use Rattle.core_views.specs.Slots.{is_write}
+use Rattle.core_views.specs.Traces.{IsCommandFor}
 use Rattle.spte_words.specs.declared.area.Area.TheVariants as area
 use Rattle.spte_words.specs.declared.spte_kind.SpteKind.{SpteKind}
 use Rattle.spte_words.specs.declared.spte_kind.SpteKind.TheVariants as entry_kind
@@ -38,11 +42,10 @@ use Rattle.part_steps.specs.PartTasks.{entry_index, table_page}
 use Rattle.part_steps.specs.PartHoldings.{IsOver}
 use Rattle.part_steps.specs.Tasks.{kind_of_task}
 use Rattle.mmu_core.specs.invariant.TopicsInvariant.{TopicsInvariant}
-use Rattle.mmu_core.proofs.pages.LeavesOver.{leaf_for}
+use Rattle.mmu_core.proofs.pages.LeavesOver.{leaf_below}
 use Rattle.mmu_core.specs.machine.View.{View, answer_in, hand_after}
 pub use Rattle.mmu_core.proofs.slots.LiveStay.{leaf_stays, translations_stay}
 use Rattle.mmu_core.proofs.words.HostFrames.{leaf_there}
-use Rattle.mmu_core.proofs.pages.Linked.{walk_linked}
 
 -- A step leaves what is cached, or flushes it.
 pub flushed_kept : (P : Translation → Type 0) (k : Kind) (c : Buffer Translation) (v : ℕ) → All P c.items → All P (flushed k c v).items
@@ -59,8 +62,8 @@ flushed_kept P k c v all = by (kind_named k.code)
 
 -- ---- a leaf that a walk finds
 
--- A leaf in the walk's table, at the guest frame's entry, is each one's that this entry is over.
-pub leaf_found : (z : Sizes) (v : View) (a gfn : ℕ) → a < actors_of z → Invariant z v → TopicsInvariant z v → IsOver gfn (v.hand a).topics.walk
+-- A leaf in the table of a walk in the guest, at the guest frame's entry, is each one's that this entry is over.
+pub leaf_found : (z : Sizes) (v : View) (a gfn : ℕ) → a < z.vcpus → (v.hand a).topics.stay ≡ Guest → TopicsInvariant z v → IsOver gfn (v.hand a).topics.walk
     → kind_of (v.hand a).topics.walk.level
     (v.words area.Pool (pool_index (table_page (v.hand a).topics.walk) (entry_index gfn (v.hand a).topics.walk.level))) ≡ entry_kind.Leaf
     → IsTranslationFor (v.words area.Pool) (v.words area.Host) (v.words area.Slots 0) (record {
@@ -68,18 +71,23 @@ pub leaf_found : (z : Sizes) (v : View) (a gfn : ℕ) → a < actors_of z → In
       level = (v.hand a).topics.walk.level;
       leaf = v.words area.Pool (pool_index (table_page (v.hand a).topics.walk) (entry_index gfn (v.hand a).topics.walk.level));
     })
-leaf_found z v a gfn lt I P over leaf other covered =
+leaf_found z v a gfn low guest P over leaf other covered =
     let walk : TableWalk = (v.hand a).topics.walk in
     let span = over.span in
     let same : other / level_span walk.level ≡ gfn / level_span walk.level = grind (arith, nat_tests) in
-    leaf_for z v P (table_page walk) walk.level walk.prefix (entry_index gfn walk.level) other (walk_linked z v P a lt over.there)
-    ((P.held a lt).table over.there) (omega arith)
+    leaf_below z v P (table_page walk) (table_page walk) walk.level walk.prefix (entry_index gfn walk.level) other (P.reach a low guest over.there) (0, refl)
+    ((P.held a (omega (arith, low))).table over.there) (omega arith)
     (omega (arith, span, same)) leaf
 
 -- What a stay caches is a leaf.
 pub found_is_leaf : (k : SpteKind) (allowed : Bool) → is_found k allowed ≡ true → k ≡ entry_kind.Leaf
 found_is_leaf entry_kind.Leaf allowed is = refl
 found_is_leaf _ allowed is = absurd (cc is)
+
+-- A virtual processor makes it.
+pub vcpu_below : (z : Sizes) (actor : Actor) (gfn word : ℕ) (op : Op) → IsCommandFor z actor (Access gfn word op) → index_of z actor < z.vcpus
+vcpu_below z (Vcpu n) gfn word op may = may.0
+vcpu_below z _ gfn word op may = absurd may
 
 -- What holds of a new translation and of those before holds of all after it is cached.
 pub with_leaf_all : (P : Translation → Type 0) (gfn level leaf : ℕ) (c : Buffer Translation) → P (record { gfn = gfn; level = level; leaf = leaf })
@@ -128,12 +136,15 @@ covers_not gfn t lowest apart = by (covers gfn t) refl
 -- ---- after a step of an access
 
 -- What an access caches is a leaf that its walk found, before what was cached.
-pub caches_kept : (z : Sizes) (v : View) (a : ℕ) (p : AccessPlace) (gfn word : ℕ) (op : Op) → a < actors_of z → Invariant z v → TopicsInvariant z v
+pub caches_kept : (z : Sizes) (v : View) (a : ℕ) (p : AccessPlace) (gfn word : ℕ) (op : Op) → a < z.vcpus → Invariant z v → TopicsInvariant z v
     → AccessKnows p gfn (is_write op) (v.hand a)
     → CachedPart z (access_caches p (v.hand a) gfn op (answer_in (access_task p (v.hand a) gfn word op) v.words)).items
 caches_kept z v a (Walk again) gfn word op lt I P K =
     by (is_found (kind_of level w) (allows_access (is_write op) w)) (λ e. found_is_leaf (kind_of level w) (allows_access (is_write op) w) e)
   where
+    there : a < actors_of z
+    there = omega (arith, lt)
+
     h : Held
     h = v.hand a
 
@@ -145,18 +156,18 @@ caches_kept z v a (Walk again) gfn word op lt I P K =
 
     by : (b : Bool) → (b ≡ true → kind_of level w ≡ entry_kind.Leaf) → CachedPart z (if b then with_leaf gfn level w h.cached else h.cached).items
     by true leaf =
-        let found = leaf_found z v a gfn lt I P K.1 (leaf refl) in
+        let found = leaf_found z v a gfn lt K.0.guest P K.1 (leaf refl) in
         let fits : FitsMachine z (record { gfn = gfn; level = level; leaf = w }) = record {
           level = (K.1.there, leaf_level level w (leaf refl));
           there = λ other covered. leaf_there z (v.words area.Slots 0) (v.words area.Role) (v.words area.Pool) (v.words area.Host) level other w I.sizes
               I.set_part P.hosts (found other covered);
         } in
-        with_leaf_all (FitsMachine z) gfn level w h.cached fits (I.cached a lt)
-    by false leaf = I.cached a lt
-caches_kept z v a _ gfn word op lt I P K = I.cached a lt
+        with_leaf_all (FitsMachine z) gfn level w h.cached fits (I.cached a there)
+    by false leaf = I.cached a there
+caches_kept z v a _ gfn word op lt I P K = I.cached a (omega (arith, lt))
 
 -- All that the actor has cached after its step is of such a level, at frames of the machine.
-pub cached_kept : (z : Sizes) (v : View) (a : ℕ) (line : Line) (p : AccessPlace) (gfn word : ℕ) (op : Op) → a < actors_of z → Invariant z v
+pub cached_kept : (z : Sizes) (v : View) (a : ℕ) (line : Line) (p : AccessPlace) (gfn word : ℕ) (op : Op) → a < z.vcpus → Invariant z v
     → TopicsInvariant z v → AccessKnows p gfn (is_write op) (v.hand a)
     → CachedPart z (hand_after line (Access gfn word op) (place.Access p) (v.hand a) (answer_in (access_task p (v.hand a) gfn word op) v.words)).cached.items
 cached_kept z v a line p gfn word op lt I P K =
