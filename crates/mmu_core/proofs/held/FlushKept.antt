@@ -126,7 +126,7 @@ module _ (z : Sizes) (v : View) (a : ℕ) (I : TopicsInvariant z v) where
       let here : I.spot (table_page walk) ≡ at walk.level walk.prefix = (spot_of I.up I.spot (table_page walk) (at walk.level walk.prefix) at_walk).1 in
       let span = over.span in
       subst (λ (p : Position). IsNoLeafIn own_ p.level other (entry gfn)) here
-      (reach guest over.there (table_page walk) (entry_index gfn walk.level) other (0, refl) (
+      (reach guest walk.level over.there (omega arith) (I.tree.there _ _ at_walk).2 (table_page walk) (entry_index gfn walk.level) other (0, refl) (
         omega arith,
         subst (λ (p : Position). other / level_span p.level ≡ p.prefix * 512 + entry_index gfn walk.level) (sym here)
             (omega (arith, span, same)),

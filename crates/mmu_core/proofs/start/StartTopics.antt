@@ -255,7 +255,7 @@ start_topics z lines w start = record {
   paths = λ i lt. subst (λ (t : Topics). PathPart (stands (start_up z.pool) start_spot) t.walk) (sym (topics_are z lines w i start lt))
       (λ level from above most. absurd (omega (arith, from)));
   linked = λ i lt alone out level from down most. absurd (walks_none z lines w i start lt from);
-  reach = λ k low guest from. absurd (walks_none z lines w k start (omega (arith, low)) from);
+  reach = λ k low guest level from. absurd (walks_none z lines w k start (omega (arith, low)) from);
   reach_flushed = λ i k lt low emptied. absurd (none_open_yet z lines w i start lt (empty_open (hand_in mmu w i).topics emptied));
   owed = λ i lt out. ap (λ (t : Topics). t.owed) (topics_are z lines w i start lt);
   sets = λ i k lt is. absurd (holds_none z lines w i k start lt is);

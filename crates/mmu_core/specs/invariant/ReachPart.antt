@@ -1,10 +1,9 @@
--- What walks lead to. Who has the lock alone walks tables that hang below the root; and a virtual processor in the guest comes from the table of its walk, which
--- others may take out meanwhile, to leaves that it may use as it uses what it has cached (tdp_mmu.c; locking.rst, "Fast page fault"; vcpu-requests.rst).
+-- What walks lead to. Who has the lock alone walks tables that hang below the root; and a virtual processor in the guest comes from the tables of its walk to
+-- leaves that it may use as it uses what it has cached (tdp_mmu.c; locking.rst, "Fast page fault"; vcpu-requests.rst).
 use Rattle.std.specs.Prelude.{◌≡◌, ◌<◌, ◌≤◌, ℕ, true}
 use Rattle.core_views.specs.declared.topics.Hold.TheVariants.{Exclusive}
 use Rattle.core_views.specs.declared.topics.Stay.TheVariants.{Guest, Outside}
 use Rattle.core_views.specs.declared.topics.Topics.{Topics}
-use Rattle.part_steps.specs.PartTasks.{table_page}
 use Rattle.mmu_core.specs.invariant.AllOver.{AllOver, LeafIsFor}
 use Rattle.mmu_core.specs.invariant.HeldPart.{table_at}
 use Rattle.mmu_core.specs.invariant.InvalidatedPart.{FlushesFor, IsNoLeafIn}
@@ -15,9 +14,10 @@ abbrev pub LinkedPart : (ℕ → Use) → ℕ → Topics → Type 0
 LinkedPart up root t =
     t.hold ≡ Exclusive → t.stay ≡ Outside → (level : ℕ) → 1 ≤ t.walk.level → t.walk.level ≤ level → level ≤ 4 → HangsBelow up root (table_at level t.walk)
 
--- Each entry to which the actor can come in the guest, from the table of its walk on, is so.
+-- Each entry is so to which the actor can come in the guest from a table that its walk has come to, or gone through, in this stay.
 abbrev pub InReach : (ℕ → Use) → (ℕ → Position) → (ℕ → ℕ) → Topics → (ℕ → ℕ → ℕ → Type 0) → Type 0
-InReach up spot pool t IsSo = t.stay ≡ Guest → 1 ≤ t.walk.level → AllOver up spot pool (table_page t.walk) IsSo
+InReach up spot pool t IsSo =
+    t.stay ≡ Guest → (level : ℕ) → 1 ≤ t.walk.level → t.walk.level ≤ level → level ≤ 4 → AllOver up spot pool (table_at level t.walk) IsSo
 
 -- A leaf to which a virtual processor can come is the one that slots and host give.
 abbrev pub ReachPart : ℕ → (ℕ → Use) → (ℕ → Position) → (ℕ → ℕ) → (ℕ → ℕ) → ℕ → (ℕ → Topics) → Type 0

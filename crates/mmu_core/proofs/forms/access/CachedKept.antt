@@ -75,7 +75,8 @@ leaf_found z v a gfn low guest P over leaf other covered =
     let walk : TableWalk = (v.hand a).topics.walk in
     let span = over.span in
     let same : other / level_span walk.level ≡ gfn / level_span walk.level = grind (arith, nat_tests) in
-    leaf_below z v P (table_page walk) (table_page walk) walk.level walk.prefix (entry_index gfn walk.level) other (P.reach a low guest over.there) (0, refl)
+    leaf_below z v P (table_page walk) (table_page walk) walk.level walk.prefix (entry_index gfn walk.level) other
+    (P.reach a low guest walk.level over.there (omega arith) (P.tree.there _ _ ((P.held a (omega (arith, low))).table over.there)).2) (0, refl)
     ((P.held a (omega (arith, low))).table over.there) (omega arith)
     (omega (arith, span, same)) leaf
 
