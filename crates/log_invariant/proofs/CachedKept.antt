@@ -71,7 +71,7 @@ use Rattle.log_invariant.proofs.forms.log.LogUses.{ShowsFlushBy, log_used, no_fr
 -- ---- carried over a step
 
 -- What is guarded before a step is guarded after it, of each virtual processor that may use what it has cached, and is asked for a flush still if it was.
-abbrev Carries : Sizes → View → View → Type 0
+abbrev pub Carries : Sizes → View → View → Type 0
 Carries z v w = (k : ℕ) → AsksStill (v.words area.State k) (w.words area.State k) → k < z.vcpus → may_use (v.words area.State k) (v.hand k).topics.stay ≡ true
     → (gfn : ℕ) → AllGuarded z v (ExcusesCached k (v.words area.State k)) gfn → AllGuarded z w (ExcusesCached k (w.words area.State k)) gfn
 
@@ -200,13 +200,27 @@ uses_excused z v a line command p S I P k gfn low may excuse =
     by p S (inr flushes) =
         inr (reading_used z v a line command p S I P (needs_at z v a line command p S I P) k gfn low may (reading_at p command h) refl flushes)
 
--- Each step of a line keeps it, where each page is marked after it of a slot whose log begins so.
+-- What is guarded is guarded after each step of a line, where each page is marked after it of a slot whose log begins so.
+pub line_carries : (z : Sizes) (v : View) (a : ℕ) (line : Line) (command : Command) (p : Place) → AreSmall v → IsStep z v a line command p
+    → Invariant z v → TopicsInvariant z v → LogInvariant z v → AllSetNow z (stepped a line command p v) → Carries z v (stepped a line command p v)
+line_carries z v a line command p small S I P G set k still low may gfn guarded =
+    let w : View = stepped a line command p v in
+    guarded_kept z v a line command p small S I P G gfn (ExcusesCached k (v.words area.State k)) (ExcusesCached k (w.words area.State k)) (record {
+      others = λ j lt ne excuse. still_excused k (v.words area.State k) (w.words area.State k) (v.hand j) gfn still excuse;
+      own = λ id slot logged holds excuse. inr (a, S.there, uses_excused z v a line command p S I P k gfn low may excuse);
+    })
+    (λ takes T. inr (allows_use (forbidding (w.hand a)) k (w.words area.State k) gfn (taken_forbids p v a line command gfn takes S.command_is T)))
+    (λ slot begins holds. begun_guarded z v a line command p S I (ExcusesCached k (w.words area.State k)) gfn slot (λ g opens clean. inl (opens, clean)) set
+    begins holds) guarded
+
+-- So it is with what is cached.
 pub line_cached_kept : (z : Sizes) (v : View) (a : ℕ) (line : Line) (command : Command) (p : Place) → AreSmall v → IsStep z v a line command p
     → Invariant z v → TopicsInvariant z v → LogInvariant z v → AllSetNow z (stepped a line command p v) → CachedNow z (stepped a line command p v)
 line_cached_kept z v a line command p small S I P G set k low =
     task_carried z v a c (hand_after line command p h x) (task_at p command h)
     (UseIsGuarded (AllGuarded z w (ExcusesCached k (w.words area.State k)))) k (step_of z v a command p makes)
-    (λ still may. carried_guarded z v w a c carries (λ lt was. line_guarded z v a P G S.there p command makes (G.cached a lt was)) G.cached k low still may)
+    (λ still may. carried_guarded z v w a c (line_carries z v a line command p small S I P G set)
+    (λ lt was. line_guarded z v a P G lt p command (step_knows z v a line command p S I) makes (G.cached a lt was)) G.cached k low still may)
   where
     h : Held
     h = v.hand a
@@ -223,42 +237,33 @@ line_cached_kept z v a line command p small S I P G set k low =
     makes : MakesAt z v a p command
     makes = makes_at z v a line command p small S I P
 
-    carries : Carries z v w
-    carries k still low may gfn guarded =
-        guarded_kept z v a line command p small S I P G gfn (ExcusesCached k (v.words area.State k)) (ExcusesCached k (w.words area.State k)) (record {
-          others = λ j lt ne excuse. still_excused k (v.words area.State k) (w.words area.State k) (v.hand j) gfn still excuse;
-          own = λ id slot logged holds excuse. inr (a, S.there, uses_excused z v a line command p S I P k gfn low may excuse);
-        })
-        (λ takes T. inr (allows_use (forbidding (w.hand a)) k (w.words area.State k) gfn (taken_forbids p v a line command gfn takes S.command_is T)))
-        (λ slot begins holds. begun_guarded z v a line command p S I (ExcusesCached k (w.words area.State k)) gfn slot (λ g opens clean. inl (opens, clean)) set
-        begins holds) guarded
-
 -- ---- a step of an actor with no line left
 
--- And so does each step of a part that an actor makes with no line left.
-pub part_cached_kept : (z : Sizes) (v : View) (a : ℕ) (step : PartStep) (note : ℕ) → IsPart z v a step → needs_line step ≡ false
-    → has_line (v.hand a) ≡ false → Invariant z v → TopicsInvariant z v → LogInvariant z v → CachedNow z (part_stepped a step note v)
-part_cached_kept z v a step note S free none I P G k low =
-    task_carried z v a h.cached h (part_task step (own_index h) h.topics note)
-    (UseIsGuarded (AllGuarded z w (ExcusesCached k (w.words area.State k)))) k (Makes step note S)
-    (λ still may. carried_guarded z v w a h.cached carries (G.cached a) G.cached k low still may)
+-- And so it is with each step of a part that an actor makes with no line left.
+pub part_carries : (z : Sizes) (v : View) (a : ℕ) (step : PartStep) (note : ℕ) → IsPart z v a step → needs_line step ≡ false
+    → has_line (v.hand a) ≡ false → Invariant z v → TopicsInvariant z v → Carries z v (part_stepped a step note v)
+part_carries z v a step note S free none I P k still low may gfn guarded =
+    let w : View = part_stepped a step note v in
+    idle_guarded_kept z v a step note S free P gfn (ExcusesCached k (v.words area.State k)) (ExcusesCached k (w.words area.State k)) (record {
+      others = λ j lt ne excuse. still_excused k (v.words area.State k) (w.words area.State k) (v.hand j) gfn still excuse;
+      own = λ id slot logged holds excuse. absurd (never (v.words area.State k) excuse);
+    }) guarded
   where
     h : Held
     h = v.hand a
 
-    w : View
-    w = part_stepped a step note v
-
-    never : (k state gfn : ℕ) → ExcusesCached k state h gfn → ⊥
-    never k state gfn = idle_says (λ q. MayUseAt k state q h.state.line.command h gfn → ⊥) h none (I.lines a S.there).under by
+    never : (state : ℕ) → ExcusesCached k state h gfn → ⊥
+    never state = idle_says (λ q. MayUseAt k state q h.state.line.command h gfn → ⊥) h none (I.lines a S.there).under by
       where
         by : MayUseAt k state place.Between h.state.line.command h gfn → ⊥
         by (inl opens) = opens.0
         by (inr flushes) = flushes.0
 
-    carries : Carries z v w
-    carries k still low may gfn guarded =
-        idle_guarded_kept z v a step note S free P gfn (ExcusesCached k (v.words area.State k)) (ExcusesCached k (w.words area.State k)) (record {
-          others = λ j lt ne excuse. still_excused k (v.words area.State k) (w.words area.State k) (v.hand j) gfn still excuse;
-          own = λ id slot logged holds excuse. absurd (never k (v.words area.State k) gfn excuse);
-        }) guarded
+pub part_cached_kept : (z : Sizes) (v : View) (a : ℕ) (step : PartStep) (note : ℕ) → IsPart z v a step → needs_line step ≡ false
+    → has_line (v.hand a) ≡ false → Invariant z v → TopicsInvariant z v → LogInvariant z v → CachedNow z (part_stepped a step note v)
+part_cached_kept z v a step note S free none I P G k low =
+    let h : Held = v.hand a in
+    let w : View = part_stepped a step note v in
+    task_carried z v a h.cached h (part_task step (own_index h) h.topics note)
+    (UseIsGuarded (AllGuarded z w (ExcusesCached k (w.words area.State k)))) k (Makes step note S)
+    (λ still may. carried_guarded z v w a h.cached (part_carries z v a step note S free none I P) (G.cached a) G.cached k low still may)

@@ -29,7 +29,6 @@ use Rattle.mmu_core.proofs.invariant.Kept.{makes_at}
 use Rattle.mmu_core.proofs.invariant.QuietKept.{MakesAt}
 use Rattle.mmu_core.proofs.forms.access.AccessParts.{AreSmall}
 use Rattle.mmu_core.proofs.held.WalkSpans.{one_frame}
-use Rattle.mmu_core.proofs.pages.LeavesOver.{leaf_for}
 use Rattle.mmu_core.proofs.pages.PutLeaves.{run_holds}
 use Rattle.mmu_core.proofs.words.RunPlaces.{run_has}
 use Rattle.mmu_core.proofs.forms.access.LeafKnown.{logged_told}
@@ -43,23 +42,20 @@ use Rattle.mmu_core.specs.lines.PartAt.{task_at}
 use Rattle.mmu_core.specs.machine.View.{View, answer_in, hand_after, stepped, words_after}
 use Rattle.part_steps.specs.PartHoldings.{FoundSlot, IsOver, MayFix}
 use Rattle.part_steps.specs.RunHoldings.{MapsRun}
-use Rattle.part_steps.specs.PartTasks.{entry_index, leaf_fixed, leaf_written, table_page}
+use Rattle.part_steps.specs.PartTasks.{entry_index, leaf_fixed, leaf_written}
 use Rattle.part_steps.specs.PartTopics.{exchanged}
 use Rattle.part_steps.specs.declared.part_step.PartStep.TheVariants as part
 use Rattle.part_steps.specs.declared.part_step.PartStep.{PartStep}
 use Rattle.part_steps.specs.declared.task.Task.{Task}
-use Rattle.spte_words.specs.Entries.{can_write, kind_of}
-use Rattle.spte_words.specs.Areas.{pool_index}
+use Rattle.spte_words.specs.Entries.{can_write}
 use Rattle.spte_words.specs.declared.area.Area.TheVariants as area
 use Rattle.spte_words.proofs.ProtectedEntries.{leaf_level}
-use Rattle.mmu_core.proofs.pages.Standing.{entry_now}
 use Rattle.mmu_core.specs.invariant.CachedPart.{IsLeafFor}
 use Rattle.mmu_core.specs.invariant.RunsPart.{IsInRun}
 use Rattle.std.proofs.Common.{◌<◌, ◌≤◌, ◌∙◌, ◌≡◌, ◌≢◌, ◌⊎◌, ap, arith, inl, inr, refl, subst, sym, ℕ}
 use Rattle.std.proofs.lemmas.Bool.{cases_lt}
 use Rattle.std.proofs.lemmas.Bool.Decides.{nat_tests}
 use Rattle.std.specs.Prelude.{◌==◌, Bool, Some, false, true}
-use Rattle.mmu_core.proofs.pages.Linked.{walk_linked}
 
 -- What the part of the invariant on leaves says of a view.
 abbrev pub LeavesNow : Sizes → View → Type 0
@@ -172,10 +168,14 @@ module _ (z : Sizes) (v : View) (a : ℕ) (line : Line) (command : Command) (p :
       ∙ mark_owed (found == h.topics.walk.entry) h.topics.search.logged h.topics.walk gfn new_ h.topics.owed (grind (arith, nat_tests)) logged lowest over
       writes
 
+  -- The leaf that the actor has loaded last is the one that slots and host give the guest frame.
+  abbrev IsGiven : ℕ → Type 0
+  IsGiven other = IsLeafFor (v.words area.Pool) (v.words area.Host) (v.words area.Slots 0) h.topics.walk.level other h.topics.walk.entry
+
   -- A slot that has a guest frame of the leaf in which a fast fault has allowed writes has the fault's frame, too.
-  same_slot : (gfn other id : ℕ) (slot : SlotOf) → MayFix gfn h.topics → entry_now gfn h.topics v ≡ h.topics.walk.entry
-      → IsInRun h.topics.walk.level gfn other → IsLoggedNow v id slot → contains other slot ≡ true → contains gfn slot ≡ true
-  same_slot gfn other id slot M won in_run logged holds =
+  same_slot : (gfn other id : ℕ) (slot : SlotOf) → MayFix gfn h.topics → IsInRun h.topics.walk.level gfn other → IsGiven other
+      → IsLoggedNow v id slot → contains other slot ≡ true → contains gfn slot ≡ true
+  same_slot gfn other id slot M in_run L logged holds =
       subst (λ s. contains gfn s ≡ true) same (run_has L.slot other gfn h.topics.walk.level M.saw.over.there most L.run (sym in_run))
     where
       walk : TableWalk
@@ -184,21 +184,14 @@ module _ (z : Sizes) (v : View) (a : ℕ) (line : Line) (command : Command) (p :
       most : walk.level ≤ 4
       most = let low = leaf_level walk.level walk.entry M.leaf in omega (arith, low)
 
-      L : IsLeafFor (v.words area.Pool) (v.words area.Host) (v.words area.Slots 0) walk.level other
-          (v.words area.Pool (pool_index (table_page walk) (entry_index gfn walk.level)))
-      L =
-          leaf_for z v P (table_page walk) walk.level walk.prefix (entry_index gfn walk.level) other (walk_linked z v P a S.there M.saw.over.there)
-          ((P.held a S.there).table M.saw.over.there)
-          (omega arith) (let span = M.saw.over.span in omega (arith, in_run, span)) (ap (kind_of walk.level) won ∙ M.leaf)
-
       same : L.slot ≡ slot
       same = one_slot z v other L.id id L.slot slot I L.live logged.live L.holds holds
 
   -- So where the slot has a dirty log the mark that it owes covers the leaf.
-  fix_guards : (gfn other : ℕ) → MayFix gfn h.topics → entry_now gfn h.topics v ≡ h.topics.walk.entry → IsInRun h.topics.walk.level gfn other
+  fix_guards : (gfn other : ℕ) → MayFix gfn h.topics → IsInRun h.topics.walk.level gfn other → IsGiven other
       → (h.topics.search.logged ≡ true → g.topics.owed ≡ Some gfn) → ((slot : SlotOf) → PublishesLog v a command p slot → ⊥)
       → ((step : PartStep) → part_at p command h ≡ Some step → takes_bits step ≡ false) → AllGuarded z w After other
-  fix_guards gfn other M won in_run owes publishes_none keeps id slot logged holds = by (logged_before z v a line command p small S I P id slot logged)
+  fix_guards gfn other M in_run given owes publishes_none keeps id slot logged holds = by (logged_before z v a line command p small S I P id slot logged)
     where
       found_it : IsLoggedNow v id slot → contains gfn slot ≡ true
           → ((h.topics.search.slot ≡ slot) × (h.topics.search.logged ≡ true)) ⊎ SomeLogIsUnwatched z v gfn → IsGuardedNow z w After slot other
@@ -211,7 +204,7 @@ module _ (z : Sizes) (v : View) (a : ℕ) (line : Line) (command : Command) (p :
 
       by : IsLoggedNow v id slot ⊎ PublishesLog v a command p slot → IsGuardedNow z w After slot other
       by (inl was) =
-          let near = same_slot gfn other id slot M won in_run was holds in
+          let near = same_slot gfn other id slot M in_run given was holds in
           found_it was near (found_is_logged z v a gfn id slot S.there I P G M.found was near)
       by (inr B) = absurd (publishes_none slot B)
 
@@ -233,7 +226,7 @@ module _ (z : Sizes) (v : View) (a : ℕ) (line : Line) (command : Command) (p :
       → takes_bits s ≡ false
   takes_none step is never s at = let same : s ≡ step = cc (is, at) in ap takes_bits same ∙ never
 
-  new_writes : (step : PartStep) → part_at p command h ≡ Some step → OfNewWrites step h.topics v (AllGuarded z w After)
+  pub new_writes : (step : PartStep) → part_at p command h ≡ Some step → OfNewWrites step h.topics v (AllGuarded z w After)
   new_writes (part.Leaf gfn write) is = λ won writes other in_run.
       let M = makes (part.Leaf gfn write) is in
       let found : FoundSlot other h.topics =
@@ -244,9 +237,9 @@ module _ (z : Sizes) (v : View) (a : ℕ) (line : Line) (command : Command) (p :
       let same : gfn ≡ other = sym (one_frame h.topics.walk.level other gfn lowest in_run) in
       owes gfn (leaf_written gfn write h.topics) _ lowest M.needs.0.saw.over won writes (topics_made v a line command p _ is M.needs) logged ∙ ap Some same)
       (publishes_none (part.Leaf gfn write) is refl) (takes_none (part.Leaf gfn write) is refl)
-  new_writes (part.Fix gfn) is = λ won writes other in_run id slot logged holds.
+  new_writes (part.Fix gfn) is = λ won writes other in_run given id slot logged holds.
       let M = makes (part.Fix gfn) is in
-      fix_guards gfn other M.needs won in_run
+      fix_guards gfn other M.needs in_run given
       (λ told. owes gfn (leaf_fixed h.topics) _ (logged_told h.topics.walk.level h.topics.search.logged M.needs.told told) M.needs.saw.over won writes
       (topics_made v a line command p _ is M.needs) told)
       (publishes_none (part.Fix gfn) is refl) (takes_none (part.Fix gfn) is refl) id slot logged holds

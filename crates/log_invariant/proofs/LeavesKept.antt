@@ -41,7 +41,7 @@ idle_excuses z v a gfn I lt none =
     by (inr sweeps) = sweeps.0
 
 -- It puts no leaf.
-idle_new : (step : PartStep) (t : Topics) (v : View) (IsSo : ℕ → Type 0) → needs_line step ≡ false → OfNewWrites step t v IsSo
+pub idle_new : (step : PartStep) (t : Topics) (v : View) (IsSo : ℕ → Type 0) → needs_line step ≡ false → OfNewWrites step t v IsSo
 idle_new (part.Leaf gfn write) t v IsSo free = absurd (cc free)
 idle_new (part.Fix gfn) t v IsSo free = absurd (cc free)
 idle_new _ t v IsSo free = tt

@@ -24,6 +24,8 @@ pub mod OpeningSlot
 pub mod OtherSetWords
 pub mod OwnExcuse
 pub mod PublishedLogs
+pub mod ReachClaims
+pub mod ReachKept
 pub mod SetWordsKept
 pub mod StartLogs
 pub mod StepExcuses

@@ -31,6 +31,7 @@ use Rattle.log_invariant.proofs.LeavesKept.{line_leaves_kept, part_leaves_kept}
 use Rattle.log_invariant.proofs.LogsBegun.{AllSetNow}
 use Rattle.log_invariant.proofs.MarksKept.{idle_marks_kept, marks_kept}
 use Rattle.log_invariant.proofs.OldLogsKept.{idle_old_logs_kept, old_logs_kept}
+use Rattle.log_invariant.proofs.ReachKept.{line_reach_kept, part_reach_kept}
 use Rattle.log_invariant.proofs.SetWordsKept.{idle_set_words_kept, set_words_kept}
 use Rattle.log_invariant.proofs.StartLogs.{start_logs}
 use Rattle.log_invariant.proofs.WithinKept.{idle_manager_kept, idle_within_kept, manager_kept, within_kept}
@@ -52,6 +53,7 @@ line_log_kept z v a line command p small S I P G =
       within = within_kept z v a line command p small S I P G;
       leaves = line_leaves_kept z v a line command p small S I P G set;
       cached = line_cached_kept z v a line command p small S I P G set;
+      reach = line_reach_kept z v a line command p small S I P G set;
     }
 
 -- A step of an actor with no line left.
@@ -67,6 +69,7 @@ part_log_kept z v a step note S free none I P G = record {
   within = idle_within_kept z v a step note S free P G;
   leaves = part_leaves_kept z v a step note S free none I P G;
   cached = part_cached_kept z v a step note S free none I P G;
+  reach = part_reach_kept z v a step note S free none I P G;
 }
 
 -- Each step that may be made.

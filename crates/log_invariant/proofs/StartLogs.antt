@@ -77,4 +77,6 @@ module _ (z : Sizes) (lines : List Line) (w : World Held) (start : IsStart z lin
     cached = λ v low may.
         subst (AreGuarded (Guarded v)) (sym (ap (λ (x : Held). x.cached.items) (hand_is z lines w v start (omega (arith, low)))))
         (All-nil (UseIsGuarded (Guarded v)));
+    reach = λ up spot T v low H K guest level from down most table entry gfn hangs over leaf.
+        absurd (no_leaf (spot table).level (pool_index table entry) leaf);
   }

@@ -9,6 +9,7 @@ use Rattle.core_views.specs.declared.place.Place.TheVariants as place
 use Rattle.core_views.specs.declared.place.Place.{Place}
 use Rattle.core_views.specs.declared.sizes.Sizes.{Sizes}
 use Rattle.core_views.specs.declared.topics.Flush.{Flush}
+use Rattle.core_views.specs.declared.topics.Stay.TheVariants.{Guest}
 use Rattle.core_views.specs.declared.topics.TableWalk.{TableWalk}
 use Rattle.core_views.specs.declared.trace.Command.TheVariants.{Access}
 use Rattle.core_views.specs.declared.trace.Command.{Command}
@@ -25,23 +26,22 @@ use Rattle.part_steps.specs.PartTasks.{entry_index, table_page}
 use Rattle.mmu_core.specs.invariant.InvalidatedPart.{may_use}
 use Rattle.mmu_core.specs.invariant.TopicsInvariant.{TopicsInvariant}
 use Rattle.mmu_core.specs.invariant.TreePart.{Position, at}
+use Rattle.mmu_core.specs.forms.access.AccessKnows.{AccessKnows}
 use Rattle.mmu_core.specs.forms.access.AccessSteps.{access_caches, access_task, is_found}
 use Rattle.mmu_core.specs.forms.access.Cached.{with_leaf}
 use Rattle.mmu_core.specs.forms.access.FaultSteps.{allows_access}
-use Rattle.mmu_core.specs.lines.Forms.{caches_at}
+use Rattle.mmu_core.specs.lines.Forms.{KnowsPart, caches_at}
 use Rattle.mmu_core.specs.lines.PartAt.{task_at}
 use Rattle.mmu_core.specs.machine.View.{View, answer_in}
 use Rattle.mmu_core.proofs.invariant.QuietKept.{MakesAt}
 use Rattle.mmu_core.proofs.forms.access.CachedKept.{found_is_leaf, with_leaf_all}
 use Rattle.mmu_core.proofs.machine.PartStepping.{IsPart}
 use Rattle.mmu_core.proofs.pages.Standing.{spot_of}
-use Rattle.log_invariant.specs.Excuses.{ExcusesCached, ExcusesLeaf, forbidding}
+use Rattle.log_invariant.specs.Excuses.{ExcusesCached, forbidding}
 use Rattle.log_invariant.specs.Forbidding.{PassedTo, FlushesLater, Forbidding, HowFar, IsUnflushed, MayHaveCached, PassedAll}
 use Rattle.log_invariant.specs.LogInvariant.{AreGuarded, LeafIsGuarded, LogInvariant, UseIsGuarded}
 use Rattle.log_invariant.proofs.CachesCarried.{AsksStill}
 use Rattle.log_invariant.proofs.CoveredKept.{AllGuarded, IsGuardedNow}
-use Rattle.log_invariant.proofs.forms.slot_change.UsesExcused.{allowed_used}
-use Rattle.mmu_core.proofs.pages.Linked.{walk_linked}
 
 -- So it is in a view.
 abbrev pub CachedNow : Sizes → View → Type 0
@@ -77,7 +77,7 @@ still_excused k state now_ h gfn still (inr F) = inr (still_flushes (forbidding 
 
 -- ---- what an access caches
 
-module _ (z : Sizes) (v : View) (a : ℕ) (P : TopicsInvariant z v) (G : LogInvariant z v) (there : a < actors_of z) where
+module _ (z : Sizes) (v : View) (a : ℕ) (P : TopicsInvariant z v) (G : LogInvariant z v) (low : a < z.vcpus) where
   abbrev h : Held
   h = v.hand a
 
@@ -88,16 +88,23 @@ module _ (z : Sizes) (v : View) (a : ℕ) (P : TopicsInvariant z v) (G : LogInva
   abbrev entry : ℕ → ℕ
   entry gfn = v.words area.Pool (pool_index (table_page walk) (entry_index gfn walk.level))
 
-  -- A leaf that its walk finds is guarded.
-  entry_guarded : (gfn other : ℕ) → IsOver gfn walk → other / level_span walk.level ≡ gfn / level_span walk.level
-      → LeafIsGuarded (AllGuarded z v ExcusesLeaf) walk.level other (entry gfn)
-  entry_guarded gfn other over same =
+  there : a < actors_of z
+  there = omega (arith, low)
+
+  -- What is said of the guest frames of what it has cached.
+  abbrev GuardedUse : ℕ → Type 0
+  GuardedUse = AllGuarded z v (ExcusesCached a (v.words area.State a))
+
+  -- A leaf that its walk finds in the guest is guarded.
+  entry_guarded : (gfn other : ℕ) → h.topics.stay ≡ Guest → IsOver gfn walk → other / level_span walk.level ≡ gfn / level_span walk.level
+      → LeafIsGuarded GuardedUse walk.level other (entry gfn)
+  entry_guarded gfn other guest over same =
       let at_walk = (P.held a there).table over.there in
       let here : P.spot (table_page walk) ≡ at walk.level walk.prefix = (spot_of P.up P.spot (table_page walk) (at walk.level walk.prefix) at_walk).1 in
       let span = over.span in
-      subst (λ (p : Position). LeafIsGuarded (AllGuarded z v ExcusesLeaf) p.level other (entry gfn)) here
-      (G.leaves P.up P.spot P.tree (table_page walk) (entry_index gfn walk.level) other
-      (walk_linked z v P a there over.there) (
+      subst (λ (p : Position). LeafIsGuarded GuardedUse p.level other (entry gfn)) here
+      (G.reach P.up P.spot P.tree a low (P.held a there) (P.paths a there) guest walk.level over.there (omega arith) (P.tree.there _ _ at_walk).2
+      (table_page walk) (entry_index gfn walk.level) other (0, refl) (
         omega arith,
         subst (λ (p : Position). other / level_span p.level ≡ p.prefix * 512 + entry_index gfn walk.level) (sym here)
             (omega (arith, span, same)),
@@ -105,31 +112,30 @@ module _ (z : Sizes) (v : View) (a : ℕ) (P : TopicsInvariant z v) (G : LogInva
 
   -- The use of it is guarded, and so is that of each translation that is cached then.
   abbrev Guarded : List Translation → Type 0
-  Guarded items = AreGuarded (AllGuarded z v (ExcusesCached a (v.words area.State a))) items
+  Guarded items = AreGuarded GuardedUse items
 
-  walk_guarded : (gfn : ℕ) (allowed : Bool) → IsPart z v a (part.Walk gfn) → Guarded h.cached.items
+  walk_guarded : (gfn : ℕ) (allowed : Bool) → h.topics.stay ≡ Guest → IsPart z v a (part.Walk gfn) → Guarded h.cached.items
       → Guarded (if is_found (kind_of walk.level (entry gfn)) allowed then with_leaf gfn walk.level (entry gfn) h.cached else h.cached).items
-  walk_guarded gfn allowed S each = by (is_found (kind_of walk.level (entry gfn)) allowed) refl
+  walk_guarded gfn allowed guest S each = by (is_found (kind_of walk.level (entry gfn)) allowed) refl
     where
       by : (b : Bool) → is_found (kind_of walk.level (entry gfn)) allowed ≡ b
           → Guarded (if b then with_leaf gfn walk.level (entry gfn) h.cached else h.cached).items
       by false is = each
       by true is =
           let found = found_is_leaf (kind_of walk.level (entry gfn)) allowed is in
-          with_leaf_all (UseIsGuarded (AllGuarded z v (ExcusesCached a (v.words area.State a)))) gfn walk.level (entry gfn) h.cached
+          with_leaf_all (UseIsGuarded GuardedUse) gfn walk.level (entry gfn) h.cached
           (λ writes other covered.
           let same : other / level_span walk.level ≡ gfn / level_span walk.level = grind (arith, nat_tests) in
-          guarded_by z v ExcusesLeaf (ExcusesCached a (v.words area.State a)) other
-          (λ g. allowed_used g.state.place a (v.words area.State a) g.state.line.command g other)
-          (entry_guarded gfn other S.needs.0 same found writes)) each
+          entry_guarded gfn other guest S.needs.0 same found writes) each
 
-  access_guarded : (p : AccessPlace) (gfn word : ℕ) (op : Op) → MakesAt z v a (place.Access p) (Access gfn word op) → Guarded h.cached.items
-      → Guarded (access_caches p h gfn op (answer_in (access_task p h gfn word op) v.words)).items
-  access_guarded (Walk again) gfn word op makes each = walk_guarded gfn (allows_access (is_write op) (entry gfn)) (makes (part.Walk gfn) refl) each
-  access_guarded _ gfn word op makes each = each
+  access_guarded : (p : AccessPlace) (gfn word : ℕ) (op : Op) → AccessKnows p gfn (is_write op) h → MakesAt z v a (place.Access p) (Access gfn word op)
+      → Guarded h.cached.items → Guarded (access_caches p h gfn op (answer_in (access_task p h gfn word op) v.words)).items
+  access_guarded (Walk again) gfn word op K makes each =
+      walk_guarded gfn (allows_access (is_write op) (entry gfn)) K.0.guest (makes (part.Walk gfn) refl) each
+  access_guarded _ gfn word op K makes each = each
 
   -- No other step caches anything.
-  pub line_guarded : (p : Place) (command : Command) → MakesAt z v a p command → Guarded h.cached.items
+  pub line_guarded : (p : Place) (command : Command) → KnowsPart p command h → MakesAt z v a p command → Guarded h.cached.items
       → Guarded (caches_at p command h (answer_in (task_at p command h) v.words)).items
-  line_guarded (place.Access p) (Access gfn word op) makes each = access_guarded p gfn word op makes each
-  line_guarded _ _ makes each = each
+  line_guarded (place.Access p) (Access gfn word op) K makes each = access_guarded p gfn word op K makes each
+  line_guarded _ _ K makes each = each

@@ -26,9 +26,11 @@ use Rattle.part_steps.specs.LogHoldings.{is_in_log, log_end}
 use Rattle.part_steps.specs.SlotWords.{page_of}
 use Rattle.mmu_core.specs.forms.access.Cached.{covers}
 use Rattle.mmu_core.specs.invariant.AllOver.{AllOver}
+use Rattle.mmu_core.specs.invariant.HeldPart.{HeldPart, PathPart}
 use Rattle.mmu_core.specs.invariant.InvalidatedPart.{may_use}
+use Rattle.mmu_core.specs.invariant.ReachPart.{InReach}
 use Rattle.mmu_core.specs.invariant.SlotSetPart.{IsLiveIn}
-use Rattle.mmu_core.specs.invariant.TreePart.{Position, TreePart, Use}
+use Rattle.mmu_core.specs.invariant.TreePart.{Position, TreePart, Use, stands}
 use Rattle.mmu_core.specs.forms.slot_change.ArmKnows.{IsInLog}
 use Rattle.mmu_core.specs.forms.slot_change.SlotTargets.{arm_bits, log_target}
 use Rattle.mmu_core.specs.machine.View.{View}
@@ -132,6 +134,10 @@ pub record LogInvariantOf (z : Sizes) (root slots : ℕ) (states log role pool :
   -- So is a translation that allows writes, and that a virtual processor may use.
   pub cached : (v : ℕ) → v < z.vcpus → may_use (states v) (hand v).topics.stay ≡ true
       → AreGuarded (IsGuardedIn (actors_of z) log pool slots hand (ExcusesCached v (states v))) (hand v).cached.items
+  -- And so, as what it has cached, is a leaf that allows writes and to which it can come in the guest, from a table that its walk has come to or gone through.
+  pub reach : (up : ℕ → Use) (spot : ℕ → Position) → TreePart z.pool root role pool up spot → (v : ℕ) → v < z.vcpus
+      → HeldPart (stands up spot) (hand v).topics → PathPart (stands up spot) (hand v).topics.walk
+      → InReach up spot pool (hand v).topics (LeafIsGuarded (IsGuardedIn (actors_of z) log pool slots hand (ExcusesCached v (states v))))
 
 abbrev pub LogInvariant : Sizes → View → Type 0
 LogInvariant z v =

@@ -1,24 +1,19 @@
 -- What is said of the flush of one virtual processor for one invalidation holds after each change of either.
-use Rattle.std.proofs.Common.{◌≡◌, ◌⊎◌, inl, inr, ◌+◌, ◌*◌, ◌/◌, ◌%◌, ◌^◌, ◌<◌, ℕ, List, [], refl, sym, ap, ◌∙◌, arith, w64}
+use Rattle.std.proofs.Common.{◌≡◌, ◌⊎◌, inl, inr, ◌+◌, ◌*◌, ◌/◌, ◌%◌, ◌^◌, ◌<◌, ℕ, refl, sym, ap, ◌∙◌, arith, w64}
 use Rattle.std.specs.Int.Bits.{bit_and, bit_or}
 use Rattle.std.specs.Prelude.{Bool, true, false, ◌==◌, ◌&&◌, ◌≢◌, not, if◌then◌else◌}
 use Rattle.std.proofs.lemmas.Bool.Decides.{nat_tests}
-use Rattle.std.proofs.lemmas.List.Elements.{All-nil}
 use Rattle.std.proofs.lemmas.Nat.Bits.{and_high_mask, bit_at_clear_other, bit_at_set_other, bit_at_set_same}
-use Rattle.circular_buffer.specs.Buffer.{Buffer, buffer}
-use Rattle.core_views.specs.declared.cache.Translation.{Translation}
-use Rattle.core_views.specs.declared.kind.StepKind.TheVariants as kind
 use Rattle.core_views.specs.declared.topics.Flush.{Flush}
-use Rattle.core_views.specs.declared.topics.Invalidated.{Invalidated}
 use Rattle.core_views.specs.declared.topics.Stay.{Stay}
 use Rattle.core_views.specs.declared.topics.Stay.TheVariants.{Outside, Guest, Section}
 use Rattle.spte_words.specs.Bits.{has_bit}
 use Rattle.part_steps.specs.ControlBits.{guest_bits, has_to_flush, request_bit, section_bit}
 use Rattle.part_steps.specs.PartTasks.{all_but}
 use Rattle.part_steps.specs.StayTopics.{no_flush}
-use Rattle.mmu_core.specs.invariant.InvalidatedPart.{IsApart, IsClean, IsFlushed, may_use}
+use Rattle.mmu_core.specs.invariant.InvalidatedPart.{IsFlushed, may_use}
 use Rattle.mmu_core.specs.invariant.StatesPart.{stay_bits}
-use Rattle.mmu_core.specs.forms.access.Cached.{asks_flush, flushed_by}
+use Rattle.mmu_core.specs.forms.access.Cached.{asks_flush}
 use Rattle.mmu_core.proofs.machine.Columns.{same_or}
 
 -- ---- Bit 2 of a state word.

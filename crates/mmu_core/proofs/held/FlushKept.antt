@@ -74,8 +74,8 @@ FlushesAfter z v a g c task =
     FlushesBehind z v a g task (topics_after (v.hand a).state.sizes k (v.hand a).topics x) (flushed k c x)
 
 -- After a touch, and after each step.
-touched_flushed : (z : Sizes) (v : View) (a : ℕ) (c : Buffer Translation) (g : Held) (op : Op) (index : ℕ) (I : TopicsInvariant z v) → KeepsClean z v I a c → FlushAt z v
-    → FlushesAfter z v a g c (touch_of op index)
+touched_flushed : (z : Sizes) (v : View) (a : ℕ) (c : Buffer Translation) (g : Held) (op : Op) (index : ℕ) (I : TopicsInvariant z v)
+    → KeepsClean z v I a c → FlushAt z v → FlushesAfter z v a g c (touch_of op index)
 unfolding topics_after flushed
 touched_flushed z v a c g Read index I keeps F = touch_flushed z v a c g I keeps F
 touched_flushed z v a c g _ index I keeps F = touch_flushed z v a c g I keeps F

@@ -1,7 +1,7 @@
 -- To what leaves a virtual processor comes in the guest, from the table of its walk: each step of a part keeps what is said of them.
-use Rattle.std.proofs.Common.{arith, inl, inr, refl, sym, subst, ap, ℕ, ◌<◌, ◌≡◌, ◌≢◌, ◌≤◌, ◌⊎◌}
+use Rattle.std.proofs.Common.{arith, inl, inr, sym, subst, ap, ℕ, ◌<◌, ◌≡◌, ◌≤◌, ◌⊎◌}
 use Rattle.std.proofs.lemmas.Bool.{cases_lt}
-use Rattle.std.specs.Prelude.{Bool, true, is_some}
+use Rattle.std.specs.Prelude.{true, is_some}
 use Rattle.core_views.specs.declared.sizes.Sizes.{Sizes}
 use Rattle.core_views.specs.declared.topics.Invalidated.{Invalidated}
 use Rattle.core_views.specs.declared.topics.Stay.TheVariants.{Guest}
@@ -78,7 +78,8 @@ module _ (z : Sizes) (v : View) (a note : ℕ) (step : PartStep) (S : IsPart z v
         by (inl e) = subst (λ m. AllOver up spot pool m IsSo) (sym e) below_root
         by (inr D) =
             let most = (I.tree.there (table_page t.walk) _ ((I.held a S.there).table D.0)).2 in
-            over_below up spot pool (table_page t.walk) (table_page after.walk) IsSo (hangs_still z v a step S I (table_page t.walk) (table_page after.walk) D.1)
+            over_below up spot pool (table_page t.walk) (table_page after.walk) IsSo
+            (hangs_still z v a step S I (table_page t.walk) (table_page after.walk) D.1)
             (below comes.0 t.walk.level D.0 (omega arith) most)
 
     reach_of : (level : ℕ) → 1 ≤ after.walk.level → after.walk.level ≤ level → level ≤ 4 → AllOver up spot pool (table_at level after.walk) IsSo
@@ -96,11 +97,11 @@ module _ (z : Sizes) (v : View) (a note : ℕ) (step : PartStep) (S : IsPart z v
   -- What is so in reach of an actor in the guest is so after the step, if what is so below a table stays so, and is so below the root.
   module _ (IsSo : ℕ → ℕ → ℕ → Type 0) (carried : (m : ℕ) → is_table (I.up m) ≡ true → AllOver I.up I.spot (v.words area.Pool) m IsSo
       → AllOver up spot pool m IsSo) where
-    other_reach : (k : ℕ) → k < actors_of z → InReach I.up I.spot (v.words area.Pool) (v.hand k).topics IsSo → InReach up spot pool (v.hand k).topics IsSo
+    pub other_reach : (k : ℕ) → k < actors_of z → InReach I.up I.spot (v.words area.Pool) (v.hand k).topics IsSo → InReach up spot pool (v.hand k).topics IsSo
     other_reach k lt reach guest level from down most =
         carried (table_at level (v.hand k).topics.walk) (walker_table k level lt from down most) (reach guest level from down most)
 
-    own_reach : AllOver I.up I.spot (v.words area.Pool) root IsSo → InReach I.up I.spot (v.words area.Pool) t IsSo → InReach up spot pool after IsSo
+    pub own_reach : AllOver I.up I.spot (v.words area.Pool) root IsSo → InReach I.up I.spot (v.words area.Pool) t IsSo → InReach up spot pool after IsSo
     own_reach below_root reach guest = reach_of IsSo guest (carried root (ap is_table I.tree.top) below_root)
         (λ was level from down most. other_reach a S.there reach was level from down most)
 
@@ -112,11 +113,13 @@ module _ (z : Sizes) (v : View) (a note : ℕ) (step : PartStep) (S : IsPart z v
   reach_emptied (part.Change new_) k level S low guest from down most =
       let sizes : (v.hand a).state.sizes.vcpus ≡ z.vcpus = ap (λ (y : Sizes). y.vcpus) S.sizes in
       (I.reach_flushed a k S.there low (page_empty t _ S.needs.0.opened (on_it (page_looked t.host) t.invalidations.own.pages S.needs.0.invalid))).awaits
-      (omega (arith, low, sizes, S.needs.0.asked)) (omega (arith, low, sizes, S.needs.0.awaited)) (ap (may_use (v.words area.State k)) guest) guest level from down most
+      (omega (arith, low, sizes, S.needs.0.asked)) (omega (arith, low, sizes, S.needs.0.awaited)) (ap (may_use (v.words area.State k)) guest)
+      guest level from down most
   reach_emptied part.ChangeNext k level S low guest from down most =
       let sizes : (v.hand a).state.sizes.vcpus ≡ z.vcpus = ap (λ (y : Sizes). y.vcpus) S.sizes in
       (I.reach_flushed a k S.there low (some_empty t S.needs.opened (ap is_some S.needs.is))).awaits
-      (omega (arith, low, sizes, S.needs.asked)) (omega (arith, low, sizes, S.needs.awaited)) (ap (may_use (v.words area.State k)) guest) guest level from down most
+      (omega (arith, low, sizes, S.needs.asked)) (omega (arith, low, sizes, S.needs.awaited)) (ap (may_use (v.words area.State k)) guest)
+      guest level from down most
   reach_emptied part.Publish k level S low guest from down most = λ opened asked awaited.
       (I.reach_flushed a k S.there low (slot_empty t opened S.needs.none_retired)).awaits (omega (arith, low, asked)) (omega (arith, low, awaited))
       (ap (may_use (v.words area.State k)) guest) guest level from down most
@@ -130,7 +133,8 @@ module _ (z : Sizes) (v : View) (a note : ℕ) (step : PartStep) (S : IsPart z v
   none_carried : (i : ℕ) → i < actors_of z → keeps_empty (v.hand i).topics ≡ true → (m : ℕ) → is_table (I.up m) ≡ true
       → AllOver I.up I.spot (v.words area.Pool) m (NoneIn i) → AllOver up spot pool m (NoneIn i)
   none_carried i lt opened m table A =
-      over_step z v a step note S I m (NoneIn i) table (no_leaf_light (v.hand i).topics.invalidations.own) (no_leaf_inherited (v.hand i).topics.invalidations.own)
+      over_step z v a step note S I m (NoneIn i) table (no_leaf_light (v.hand i).topics.invalidations.own)
+      (no_leaf_inherited (v.hand i).topics.invalidations.own)
       (new_leaf z v a i step S I lt opened) A
 
   -- Who enters the guest has loaded nothing in it.
@@ -179,11 +183,13 @@ reach_flushed_kept z v a step note S I =
     (λ i lt low opened. (
       enters (v.hand i).topics.invalidations.own,
       λ asked reach. subst (λ (y : Held). Now y.topics (v.hand i).topics.invalidations.own) (sym (upd_same v.hand a behind))
-          (own_reach z v a note step S I (IsNoLeafIn (v.hand i).topics.invalidations.own) (none_carried z v a note step S I i lt opened) (I.zapped i lt opened (omega (arith, asked))) reach),
+          (own_reach z v a note step S I (IsNoLeafIn (v.hand i).topics.invalidations.own) (none_carried z v a note step S I i lt opened)
+          (I.zapped i lt opened (omega (arith, asked))) reach),
     ))
     (λ i k lt low ne opened asked reach.
     subst (λ (y : Held). Now y.topics (v.hand i).topics.invalidations.own) (sym (upd_other v.hand a k behind ne))
-    (other_reach z v a note step S I (IsNoLeafIn (v.hand i).topics.invalidations.own) (none_carried z v a note step S I i lt opened) k (omega (arith, low)) reach))
+    (other_reach z v a note step S I (IsNoLeafIn (v.hand i).topics.invalidations.own) (none_carried z v a note step S I i lt opened) k
+    (omega (arith, low)) reach))
     I.reach_flushed)
   where
     behind : Held

@@ -2,8 +2,6 @@
 use Rattle.std.proofs.Common.{◌≡◌, ◌<◌, ℕ, refl, sym, subst, ap, arith}
 use Rattle.std.specs.Prelude.{Bool, true, false, if◌then◌else◌}
 use Rattle.circular_buffer.specs.Buffer.{Buffer}
-use Rattle.core_views.specs.declared.actor.Actor.{Actor}
-use Rattle.core_views.specs.declared.actor.Actor.TheVariants.{Vcpu}
 use Rattle.core_views.specs.declared.cache.Translation.{Translation}
 use Rattle.core_views.specs.declared.kind.Kind.{Kind}
 use Rattle.core_views.specs.declared.place.AccessPlace.{AccessPlace}
@@ -20,7 +18,7 @@ use Rattle.core_views.specs.declared.trace.Line.{Line}
 use Rattle.core_views.specs.declared.trace.Op.{Op}
 use Rattle.core_views.specs.declared.trace.Op.TheVariants.{Read}
 use Rattle.core_views.specs.Held.{Held}
-use Rattle.core_views.specs.Sizes.{actors_of, index_of}
+use Rattle.core_views.specs.Sizes.{actors_of}
 use Rattle.core_views.specs.Slots.{is_write}
 use Rattle.core_views.specs.Traces.{IsCommandFor}
 use Rattle.spte_words.specs.declared.area.Area.TheVariants as area
@@ -73,7 +71,8 @@ UsableAfter z v a g c task =
     UsableBehind z v a g task (topics_after (v.hand a).state.sizes k (v.hand a).topics x) (flushed k c x)
 
 -- After a touch, and after each step.
-touched_usable : (z : Sizes) (v : View) (a : ℕ) (I : TopicsInvariant z v) (c : Buffer Translation) (g : Held) (op : Op) (index : ℕ) → Caches z v I a c → UsableAt z v
+touched_usable : (z : Sizes) (v : View) (a : ℕ) (I : TopicsInvariant z v) (c : Buffer Translation) (g : Held) (op : Op) (index : ℕ)
+    → Caches z v I a c → UsableAt z v
     → UsableAfter z v a g c (touch_of op index)
 unfolding topics_after flushed
 touched_usable z v a I c g Read index C U = touch_usable z v a I c g C U

@@ -282,7 +282,8 @@ module _ (z : Sizes) (v : View) (a note : ℕ) (c : Buffer Translation) (g : Hel
       own : a < z.vcpus → may_use (states step a) (topics step).stay ≡ true → Agrees (words step) (cached step).items
       own low = own_used (IsTranslationFor (words step area.Pool) (words step area.Host) (words step area.Slots 0)) step S
           (λ asks may. agrees_after step c.items S I
-          (clean_for c.items step a h.topics.stay S low (λ opened. flushed_more (C.keeps a S.there opened) (both_flushed z v I F a a S.there low opened)) may) (C.agrees low may))
+          (clean_for c.items step a h.topics.stay S low (λ opened. flushed_more (C.keeps a S.there opened) (both_flushed z v I F a a S.there low opened)) may)
+          (C.agrees low may))
 
       others : (k : ℕ) → k < z.vcpus → k ≢ a → may_use (states step k) (v.hand k).topics.stay ≡ true → Agrees (words step) (v.hand k).cached.items
       others k low ne may =

@@ -111,7 +111,7 @@ left_leaf_for pool host set level gfn leaf L = record {
     word = host (page_of L.slot gfn)
 
 -- A new leaf is the one for each guest frame of its run.
-new_leaf : (z : Sizes) (v : View) (a : ℕ) (step : PartStep) → IsPart z v a step → TopicsInvariant z v
+pub new_leaf : (z : Sizes) (v : View) (a : ℕ) (step : PartStep) → IsPart z v a step → TopicsInvariant z v
     → OfNewLeaf step (v.hand a).topics v (LeafIsFor (v.words area.Pool) (v.words area.Host) (v.words area.Slots 0))
 new_leaf z v a (part.Fix gfn) S I = λ won other over was leaf.
     fixed_leaf (v.words area.Pool) (v.words area.Host) (v.words area.Slots 0) (v.hand a).topics.walk.level other _ S.needs.fixable (was S.needs.leaf)
@@ -120,8 +120,8 @@ new_leaf z v a (part.Protect gfn) S I = λ found other leaf was now_.
 new_leaf z v a (part.Leaf gfn write) S I = λ won other over leaf. put_leaf z v a gfn write other S I over
 new_leaf z v a _ S I = tt
 
--- Of the frames of the actor's own invalidation there is no leaf below this table, where the step changes a host word; nor where it publishes a slot set, if the
--- invalidation is flushed.
+-- Of the frames of the actor's own invalidation there is no leaf below this table, where the step changes a host word; nor where it publishes a slot set, if
+-- the invalidation is flushed.
 abbrev pub EmptiedFor : (z : Sizes) (v : View) (a : ℕ) → TopicsInvariant z v → ℕ → PartStep → Type 0
 EmptiedFor z v a I m (part.Change new_) = AllOver I.up I.spot (v.words area.Pool) m (IsNoLeafIn (v.hand a).topics.invalidations.own)
 EmptiedFor z v a I m part.ChangeNext = AllOver I.up I.spot (v.words area.Pool) m (IsNoLeafIn (v.hand a).topics.invalidations.own)
@@ -138,7 +138,8 @@ module _ (z : Sizes) (v : View) (a : ℕ) (I : TopicsInvariant z v) (m : ℕ) (t
   abbrev AgreesBehind : PartStep → ℕ → Type 0
   AgreesBehind step note =
       AllOver (up_after step a (v.hand a).topics v I.up) (spot_after step (v.hand a).topics v I.spot) ((part_stepped a step note v).words area.Pool) m
-      (LeafIsFor ((part_stepped a step note v).words area.Pool) ((part_stepped a step note v).words area.Host) ((part_stepped a step note v).words area.Slots 0))
+      (LeafIsFor ((part_stepped a step note v).words area.Pool) ((part_stepped a step note v).words area.Host)
+      ((part_stepped a step note v).words area.Slots 0))
 
   -- After a step that publishes no slot set and changes no host word.
   quiet_leaves : (step : PartStep) (note : ℕ) → IsPart z v a step → changes_word step ≡ false → is_publish step ≡ false → AgreesBelow → AgreesBehind step note

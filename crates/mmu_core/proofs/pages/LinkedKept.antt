@@ -36,7 +36,8 @@ module _ (z : Sizes) (v : View) (a note : ℕ) (step : PartStep) (S : IsPart z v
   after = part_topics step t (answer_in (part_task step a t note) v.words)
 
   -- The table that the walk has come to hangs below the root.
-  here_linked : LinkedPart I.up root t → t.hold ≡ Exclusive → t.stay ≡ Outside → ComesFrom z v a note I after.walk → HangsBelow I.up root (table_page after.walk)
+  here_linked : LinkedPart I.up root t → t.hold ≡ Exclusive → t.stay ≡ Outside → ComesFrom z v a note I after.walk
+      → HangsBelow I.up root (table_page after.walk)
   here_linked linked alone out (inl e) = subst (HangsBelow I.up root) (sym e) (0, refl)
   here_linked linked alone out (inr D) =
       reaches_on I.up root (table_at D.0 t.walk) (table_page after.walk) (linked alone out D.0 D.1 D.2 D.3) D.4
@@ -62,7 +63,8 @@ pub linked_kept : (z : Sizes) (v : View) (a : ℕ) (step : PartStep) (note : ℕ
     → LinkedPart (up_after step a (v.hand a).topics v I.up) ((part_stepped a step note v).words area.Root 0) ((part_stepped a step note v).hand i).topics
 linked_kept z v a step note S I =
     behind_step (λ (w : View). (i : ℕ) → IsKept i (w.hand i)) z v a step note S
-    (at_upd IsKept v.hand a _ (λ lt. still (stepped_hand a step note v).topics (own_linked z v a note step S I)) (λ i ne lt. still (v.hand i).topics (I.linked i lt)))
+    (at_upd IsKept v.hand a _ (λ lt. still (stepped_hand a step note v).topics (own_linked z v a note step S I))
+    (λ i ne lt. still (v.hand i).topics (I.linked i lt)))
   where
     up : ℕ → Use
     up = up_after step a (v.hand a).topics v I.up

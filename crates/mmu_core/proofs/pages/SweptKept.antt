@@ -104,7 +104,8 @@ sweep_own : (z : Sizes) (v : View) (a note gfn : ℕ) (S : IsPart z v a (part.Sw
     (v.words area.Pool (pool_index (table_page (gone_up (v.hand a).topics.walk)) (entry_index gfn (gone_up (v.hand a).topics.walk).level))))
 sweep_own z v a note gfn S I alone out opened from =
     still_below z v a note (part.Sweep gfn) S I t.invalidations.own _ tt
-    (loaded_swept I.tree t.invalidations.own up (alone_up_linked z v I a S.there S.needs.alone S.needs.outside S.needs.there) at_up gfn _ S.needs.over.span before from)
+    (loaded_swept I.tree t.invalidations.own up (alone_up_linked z v I a S.there S.needs.alone S.needs.outside S.needs.there) at_up gfn _
+    S.needs.over.span before from)
   where
     t : Topics
     t = (v.hand a).topics
@@ -165,7 +166,8 @@ zap_own z v a note gfn S I alone out opened from l j other R O is_in below leaf 
 
     past : NowBelow z v a note (part.Zap gfn) S I t.invalidations.own (entry_end after)
     past =
-        past_entry (tree_kept z v a (part.Zap gfn) note S I) t.invalidations.own t.walk (alone_linked z v I a S.there S.needs.alone S.needs.outside S.needs.saw.over.there)
+        past_entry (tree_kept z v a (part.Zap gfn) note S I) t.invalidations.own t.walk
+        (alone_linked z v I a S.there S.needs.alone S.needs.outside S.needs.saw.over.there)
         ((I.held a S.there).table S.needs.saw.over.there) index came (omega arith) nowhere start was
 
     by : (((has_entry after && is_done true after) ≡ true) × (other < entry_end after)) ⊎ (other < entry_start after) → ⊥

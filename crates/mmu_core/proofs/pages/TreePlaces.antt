@@ -113,18 +113,21 @@ module _ {pages root : ℕ} {role pool : ℕ → ℕ} {up more : ℕ → Use} {s
       let e = T.only k is in
       ap (stands more place) e ∙ root_stands N ∙ sym (root_stands T) ∙ sym (ap (stands up spot) e) ∙ at_k
 
-  -- Where the table above stands in the second, what it links to stands below it.
+  -- Where the table above stands in the second, what it links to stands below it, under the same entry.
   linked_in_both : (k m j : ℕ) (p : Position) → stands up spot k ≡ Some p → IsUnder pool up spot k p m j
-      → stands more place m ≡ Some (at (p.level + 1) (p.prefix / 512)) → stands more place k ≡ Some p
+      → stands more place m ≡ Some (at (p.level + 1) (p.prefix / 512)) → (stands more place k ≡ Some p) × (more k ≡ Under m j)
   linked_in_both k m j p at_k V above = by (N.entries m (at (p.level + 1) (p.prefix / 512)) above j (let index = V.index in omega (arith, index)))
     where
-      by : EntryPart more m (at (p.level + 1) (p.prefix / 512)) j (pool (pool_index m j)) → stands more place k ≡ Some p
+      by : EntryPart more m (at (p.level + 1) (p.prefix / 512)) j (pool (pool_index m j)) → (stands more place k ≡ Some p) × (more k ≡ Under m j)
       by (inl absent) = absurd (table_not_absent k (sym V.link ∙ absent))
       by (inr (inl L)) =
           let index = V.index in
-          ap (stands more place) (same_table k L.page (sym V.link ∙ L.is))
-          ∙ link_stands N m (at (p.level + 1) (p.prefix / 512)) j (pool (pool_index m j)) above L
-          ∙ ap Some (same_position _ p (omega arith) (omega (arith, index)))
+          let same : k ≡ L.page = same_table k L.page (sym V.link ∙ L.is) in (
+            ap (stands more place) same
+                ∙ link_stands N m (at (p.level + 1) (p.prefix / 512)) j (pool (pool_index m j)) above L
+                ∙ ap Some (same_position _ p (omega arith) (omega (arith, index))),
+            ap more same ∙ L.below,
+          )
       by (inr (inr leaf)) =
           let least = (T.there k p at_k).1 in
           absurd (table_no_leaf (p.level + 1) k (omega (arith, least)) (ap (kind_of (p.level + 1)) (sym V.link) ∙ leaf))
@@ -134,7 +137,35 @@ module _ {pages root : ℕ} {role pool : ℕ → ℕ} {up more : ℕ → Use} {s
       table_or T k p at_k (root_in_both k p at_k) (λ m j is V. absurd (let lower = V.lower in omega (arith, near, lower)))
   stands_within (suc n) k p near at_k =
       table_or T k p at_k (root_in_both k p at_k) (λ m j is V.
-      linked_in_both k m j p at_k V (stands_within n m (at (p.level + 1) (p.prefix / 512)) (omega (arith, near)) V.above))
+      (linked_in_both k m j p at_k V (stands_within n m (at (p.level + 1) (p.prefix / 512)) (omega (arith, near)) V.above)).0)
 
   pub stands_in_both : (k : ℕ) (p : Position) → stands up spot k ≡ Some p → stands more place k ≡ Some p
   stands_in_both k p = stands_within 4 k p (omega arith)
+
+  -- A table hangs below another one in the second account, too, by as many links, and stands there at its place in the first.
+  abbrev pub HangsInBoth : ℕ → ℕ → ℕ → Type 0
+  HangsInBoth m links k = Below more m links k × (stands up spot k ≡ Some (spot k)) × (stands more place k ≡ Some (spot k))
+
+  under_in_both : (m links k l j : ℕ) → up k ≡ Under l j → HangsInBoth m links l → HangsInBoth m (suc links) k
+  under_in_both m links k l j is above =
+      let V = T.under k l j is in
+      let at_k : stands up spot k ≡ Some (spot k) = at_spot up spot k (Under l j) is refl in
+      let next = linked_in_both k l j (spot k) at_k V (above.2 ∙ sym above.1 ∙ V.above) in
+      (subst (λ u. through u (Below more m links)) (sym next.1) above.0, at_k, next.0)
+
+  -- So does what hangs in the first below a table that stands at one place in both.
+  pub below_in_both : (m : ℕ) (p : Position) → stands up spot m ≡ Some p → stands more place m ≡ Some p → (links k : ℕ) → Below up m links k
+      → HangsInBoth m links k
+  below_in_both m p at_m there zero k e =
+      let same : p ≡ spot k = sym (spot_of up spot m p at_m).1 ∙ ap spot (sym e) in
+      (e, ap (stands up spot) e ∙ at_m ∙ ap Some same, ap (stands more place) e ∙ there ∙ ap Some same)
+  below_in_both m p at_m there (suc links) k hangs = by (up k) refl hangs (below_in_both m p at_m there links)
+    where
+      by : (u : Use) → up k ≡ u → through u (Below up m links) → ((l : ℕ) → Below up m links l → HangsInBoth m links l) → HangsInBoth m (suc links) k
+      by (Under l j) is chain above = under_in_both m links k l j is (above l chain)
+      by Root is chain above = absurd chain
+      by Free is chain above = absurd chain
+      by SlotSet is chain above = absurd chain
+      by Outside is chain above = absurd chain
+      by (Owned i) is chain above = absurd chain
+      by (OldSet i) is chain above = absurd chain

@@ -11,7 +11,7 @@ use Rattle.core_views.specs.declared.topics.Topics.{Topics}
 use Rattle.core_views.specs.Sizes.{actors_of}
 use Rattle.spte_words.specs.declared.area.Area.TheVariants as area
 use Rattle.spte_words.specs.Areas.{pool_index}
-use Rattle.spte_words.specs.Entries.{kind_of, table_word}
+use Rattle.spte_words.specs.Entries.{kind_of}
 use Rattle.spte_words.proofs.ReadsEntries.{kind_of_absent, kind_of_table}
 use Rattle.part_steps.specs.declared.part_step.PartStep.{PartStep}
 use Rattle.part_steps.specs.declared.part_step.PartStep.TheVariants as part
@@ -123,8 +123,11 @@ module _ (z : Sizes) (v : View) (a note : ℕ) (I : TopicsInvariant z v) where
   guest_comes part.Root S guest from = (guest, rooted_comes I.up (may_walk t.stay t.hold) t.walk root from)
   guest_comes (part.Walk gfn) S guest from = (
     guest,
-    inr (S.needs.0.there, walk_down z v I t.walk (entry_index gfn t.walk.level) (let most = S.is_sizes.pool.1 in omega (arith, most)) (omega arith)
-        ((I.held a S.there).table S.needs.0.there)),
+    inr (
+      S.needs.0.there,
+      walk_down z v I t.walk (entry_index gfn t.walk.level) (let most = S.is_sizes.pool.1 in omega (arith, most)) (omega arith)
+          ((I.held a S.there).table S.needs.0.there),
+    ),
   )
   guest_comes (part.Sweep gfn) S guest from = guest_or_out t.stay S.needs.outside guest
   guest_comes (part.WalkAnew gfn) S guest from = guest_or_out t.stay S.needs.outside guest
@@ -155,7 +158,8 @@ module _ (z : Sizes) (v : View) (a note : ℕ) (I : TopicsInvariant z v) where
   -- The walk is at the root now; or at a table that hangs below one that it had come to or gone through.
   abbrev pub ComesFrom : TableWalk → Type 0
   ComesFrom walk =
-      (table_page walk ≡ root) ⊎ ((level : ℕ) × (1 ≤ t.walk.level) × (t.walk.level ≤ level) × (level ≤ 4) × HangsBelow I.up (table_at level t.walk) (table_page walk))
+      (table_page walk ≡ root)
+      ⊎ ((level : ℕ) × (1 ≤ t.walk.level) × (t.walk.level ≤ level) × (level ≤ 4) × HangsBelow I.up (table_at level t.walk) (table_page walk))
 
   comes_on : a < actors_of z → (walk : TableWalk) → 1 ≤ t.walk.level → HangsBelow I.up (table_page t.walk) (table_page walk) → ComesFrom walk
   comes_on lt walk from hangs =
@@ -177,21 +181,34 @@ module _ (z : Sizes) (v : View) (a note : ℕ) (I : TopicsInvariant z v) where
       let none = ap (λ (s : Stay). (kept_walk (not (is_outside s)) t.walk).level) out in absurd (omega (arith, none, from))
   alone_comes part.Root S alone out from = rooted_from (may_walk t.stay t.hold) from
   alone_comes (part.Walk gfn) S alone out from =
-      comes_on S.there (after (part.Walk gfn)).walk S.needs.0.there (walk_down z v I t.walk (entry_index gfn t.walk.level) (let most = S.is_sizes.pool.1 in omega (arith, most)) (omega arith)
-      ((I.held a S.there).table S.needs.0.there))
+      comes_on S.there (after (part.Walk gfn)).walk S.needs.0.there
+      (walk_down z v I t.walk (entry_index gfn t.walk.level) (let most = S.is_sizes.pool.1 in omega (arith, most))
+      (omega arith) ((I.held a S.there).table S.needs.0.there))
   alone_comes (part.Sweep gfn) S alone out from =
       let up : TableWalk = gone_up t.walk in
       let H = I.held a S.there in
       let most = (I.tree.there (table_page t.walk) _ (H.table S.needs.there)).2 in
       let on = up_goes t.walk up.level S.needs.there (omega arith) (up_level t.walk most) in
-      inr (up.level, S.needs.there, on.down, up_level t.walk most, subst (λ k. HangsBelow I.up k (table_page (after (part.Sweep gfn)).walk)) on.table
-      (walk_down z v I up (entry_index gfn up.level) (let pool = S.is_sizes.pool.1 in omega (arith, pool)) (omega arith)
-      (up_stands (stands I.up I.spot) t H (I.paths a S.there) S.needs.there most)))
+      inr (
+        up.level,
+        S.needs.there,
+        on.down,
+        up_level t.walk most,
+        subst (λ k. HangsBelow I.up k (table_page (after (part.Sweep gfn)).walk)) on.table
+            (walk_down z v I up (entry_index gfn up.level) (let pool = S.is_sizes.pool.1 in omega (arith, pool)) (omega arith)
+            (up_stands (stands I.up I.spot) t H (I.paths a S.there) S.needs.there most)),
+      )
   alone_comes (part.WalkAnew gfn) S alone out from =
       let H = I.held a S.there in
       let most = (I.tree.there (table_page t.walk) _ (H.table S.needs.there)).2 in
-      inr (4, S.needs.there, most, omega arith, walk_down z v I (at_top t.walk) (entry_index gfn 4) (let pool = S.is_sizes.pool.1 in omega (arith, pool))
-      (omega arith) (top_stands I.tree t H (I.paths a S.there) S.needs.there))
+      inr (
+        4,
+        S.needs.there,
+        most,
+        omega arith,
+        walk_down z v I (at_top t.walk) (entry_index gfn 4) (let pool = S.is_sizes.pool.1 in omega (arith, pool))
+            (omega arith) (top_stands I.tree t H (I.paths a S.there) S.needs.there),
+      )
   alone_comes (part.Link gfn) S alone out from = absurd (let section = S.needs.0.section in cc (section, out))
   alone_comes (part.Leaf gfn write) S alone out from = absurd (let section = S.needs.0.section in cc (section, out))
   alone_comes (part.Fix gfn) S alone out from = absurd (let section = S.needs.section in cc (section, out))

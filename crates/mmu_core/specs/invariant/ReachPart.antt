@@ -1,6 +1,6 @@
 -- What walks lead to. Who has the lock alone walks tables that hang below the root; and a virtual processor in the guest comes from the tables of its walk to
 -- leaves that it may use as it uses what it has cached (tdp_mmu.c; locking.rst, "Fast page fault"; vcpu-requests.rst).
-use Rattle.std.specs.Prelude.{◌≡◌, ◌<◌, ◌≤◌, ℕ, true}
+use Rattle.std.specs.Prelude.{◌≡◌, ◌<◌, ◌≤◌, ℕ}
 use Rattle.core_views.specs.declared.topics.Hold.TheVariants.{Exclusive}
 use Rattle.core_views.specs.declared.topics.Stay.TheVariants.{Guest, Outside}
 use Rattle.core_views.specs.declared.topics.Topics.{Topics}

@@ -45,10 +45,10 @@ use Rattle.mmu_core.proofs.pages.NoneBelow.{over_frame}
 use Rattle.mmu_laws.proofs.leaves.LeadsDown.{leads_at, leads_linked, link_below, one_below}
 use Rattle.mmu_core.proofs.words.HostFrames.{first_small, leaf_maps}
 use Rattle.mmu_core.proofs.words.SlotLists.{only_one_holds}
-use Rattle.mmu_core.proofs.forms.access.CachedKept.{used_covers}
+use Rattle.mmu_core.proofs.forms.access.CachedKept.{used_covers, vcpu_below}
 use Rattle.mmu_core.proofs.forms.access.UsedTranslations.{uses_allows}
 use Rattle.mmu_core.proofs.machine.Stepping.{line_allowed}
-use Rattle.mmu_core.proofs.held.UsableKept.{vcpu_below, used_agrees}
+use Rattle.mmu_core.proofs.held.UsableKept.{used_agrees}
 use Rattle.core_views.specs.Traces.{IsCommandFor}
 use Rattle.mmu_core.proofs.forms.access.FaultSame.{both}
 use Rattle.mmu_core.proofs.pages.Linked.{walk_linked}

@@ -60,7 +60,7 @@ use Rattle.mmu_core.proofs.forms.log.ReadingPlaces.{IsOfReading, reading_is}
 use Rattle.mmu_core.specs.forms.log.Readings.{Reading, reading_at}
 use Rattle.log_invariant.proofs.forms.log.PassedPages.{leaf_denies, walk_denies}
 use Rattle.log_invariant.proofs.SweptWrites.{passed_denies}
-use Rattle.mmu_core.proofs.pages.Linked.{up_linked, walk_linked}
+use Rattle.mmu_core.proofs.pages.Linked.{alone_linked, alone_up_linked}
 
 -- A sweep stands at a table, after an entry.
 swept_there : (n : SweepNext) (zaps : Bool) (range : FrameRange) (walk : TableWalk) → SweepKnows n zaps range walk → 1 ≤ walk.level
@@ -85,7 +85,8 @@ module _ (z : Sizes) (v : View) (a : ℕ) (note : ℕ) (P : TopicsInvariant z v)
       (DeniesPassed (place.SlotChange (change.WriteProtect range (protect.Walk true))) command (v.hand a)
       (part_topics (part.Sweep came) t (v.words area.Pool (pool_index (table_page (gone_up t.walk)) (entry_index came (gone_up t.walk).level)))).walk)
   sweep_denies S most K l j other R O passes =
-      passed_denies (tree_kept z v a (part.Sweep came) note S P) up (up_linked z v P a S.there S.needs.there) at_up range.start came x
+      passed_denies (tree_kept z v a (part.Sweep came) note S P) up (alone_up_linked z v P a S.there S.needs.alone S.needs.outside S.needs.there) at_up
+      range.start came x
       (linked_page (kind_of up.level x))
       (K.on.over K.left).span K.on.from refl (swept_there _ false range _ (sweep_known false range t.walk x most K)) l j other R O passes.1 passes.2
     where
@@ -105,7 +106,7 @@ module _ (z : Sizes) (v : View) (a : ℕ) (note : ℕ) (P : TopicsInvariant z v)
       → AllOver P.up P.spot ((part_stepped a (part.Protect came) note v).words area.Pool) ((part_stepped a (part.Protect came) note v).words area.Root 0)
       (DeniesPassed (place.SlotChange (change.WriteProtect range protect.Protect)) command (v.hand a) (part_topics (part.Protect came) t 0).walk)
   protect_denies S K l j other R O passes =
-      passed_denies (tree_kept z v a (part.Protect came) note S P) t.walk (walk_linked z v P a S.there K.saw.over.there)
+      passed_denies (tree_kept z v a (part.Protect came) note S P) t.walk (alone_linked z v P a S.there S.needs.alone S.needs.outside K.saw.over.there)
       ((P.held a S.there).table K.saw.over.there) range.start came
       (without_write t.walk.entry) None K.saw.over.span K.from left K.saw.over.there l j other R O passes.1 passes.2
     where
@@ -213,8 +214,10 @@ module _ (z : Sizes) (v : View) (a : ℕ) (line : Line) (command : Command) (sma
   by_reading : (p : Place) (q : LogPlace) (c : Command) → reading_at p command (v.hand a) ≡ Some (record { place = q; command = c })
       → IsStep z v a line command p → DeniesBehind p
   by_reading p (log.Walk page) c is S =
+      let W = ((reading_is p command (v.hand a) _ is).knows (step_knows z v a line command p S I)).0 in
       at_reading p (log.Walk page) c is S refl
-      (λ up spot M l j other R O passes. walk_denies z v a P (frame_asked (slot_asked (v.hand a) c) c page) (has_entry (v.hand a).topics.walk) M l j other R O
+      (λ up spot M l j other R O passes.
+      walk_denies z v a P (frame_asked (slot_asked (v.hand a) c) c page) (has_entry (v.hand a).topics.walk) W.alone W.outside M l j other R O
       (passed_of p command (v.hand a) _ _ other is passes))
   by_reading p (log.Protect page) c is S =
       at_reading p (log.Protect page) c is S refl

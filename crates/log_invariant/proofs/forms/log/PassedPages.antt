@@ -3,6 +3,8 @@
 use Rattle.std.proofs.Common.{◌*◌, ◌+◌, ◌/◌, ◌∙◌, ◌≡◌, ap, arith, refl, subst, sym, ℕ}
 use Rattle.std.specs.Prelude.{◌&&◌, Bool, None, Option, Some, false, if◌then◌else◌, true}
 use Rattle.core_views.specs.declared.sizes.Sizes.{Sizes}
+use Rattle.core_views.specs.declared.topics.Hold.TheVariants.{Exclusive}
+use Rattle.core_views.specs.declared.topics.Stay.TheVariants.{Outside}
 use Rattle.core_views.specs.declared.topics.TableWalk.{TableWalk}
 use Rattle.core_views.specs.declared.topics.Topics.{Topics}
 use Rattle.spte_words.specs.Areas.{pool_index}
@@ -28,7 +30,7 @@ use Rattle.mmu_core.specs.invariant.TopicsInvariant.{TopicsInvariant}
 use Rattle.mmu_core.specs.invariant.TreePart.{HangsBelow, Position, TreePart, Use, at, stands}
 use Rattle.mmu_core.specs.machine.View.{View, answer_in, part_stepped}
 use Rattle.log_invariant.proofs.SweptWrites.{none_allows}
-use Rattle.mmu_core.proofs.pages.Linked.{top_linked, walk_linked}
+use Rattle.mmu_core.proofs.pages.Linked.{alone_linked, alone_top_linked}
 
 -- The guest frame is this one, and there is nothing to do at the entry that was loaded last, or changed: so the leaf doesn't allow writes.
 abbrev DeniesAt : ℕ → TableWalk → ℕ → ℕ → ℕ → Type 0
@@ -66,28 +68,28 @@ module _ (z : Sizes) (v : View) (a : ℕ) (P : TopicsInvariant z v) (gfn : ℕ) 
       (DeniesAt gfn (part_topics step t (answer_in (part_task step (own_index (v.hand a)) t 0) v.words)).walk)
 
   -- It loads the next entry, or begins anew at the root.
-  next_denies : IsPart z v a (part.Walk gfn) → Denies (part.Walk gfn)
-  next_denies S =
+  next_denies : t.hold ≡ Exclusive → t.stay ≡ Outside → IsPart z v a (part.Walk gfn) → Denies (part.Walk gfn)
+  next_denies alone outside S =
       let over = S.needs.0 in
-      entry_denies P.tree t.walk (walk_linked z v P a S.there over.there) ((P.held a S.there).table over.there) gfn
+      entry_denies P.tree t.walk (alone_linked z v P a S.there alone outside over.there) ((P.held a S.there).table over.there) gfn
       (v.words area.Pool (pool_index (table_page t.walk) (entry_index gfn t.walk.level))) (linked_page (kind_of t.walk.level _)) over.span refl
 
   anew_denies : IsPart z v a (part.WalkAnew gfn) → Denies (part.WalkAnew gfn)
   anew_denies S =
       let x : ℕ = v.words area.Pool (pool_index (table_page (at_top t.walk)) (entry_index gfn 4)) in
-      entry_denies P.tree (at_top t.walk) (top_linked z v P a S.there S.needs.there)
+      entry_denies P.tree (at_top t.walk) (alone_top_linked z v P a S.there S.needs.alone S.needs.outside S.needs.there)
       (top_stands P.tree t (P.held a S.there) (P.paths a S.there) S.needs.there) gfn x
       (linked_page (kind_of 4 x)) (over_top gfn t.walk S.needs.small).span refl
 
-  pub walk_denies : (anew : Bool) → IsPart z v a (if anew then part.WalkAnew gfn else part.Walk gfn)
+  pub walk_denies : (anew : Bool) → t.hold ≡ Exclusive → t.stay ≡ Outside → IsPart z v a (if anew then part.WalkAnew gfn else part.Walk gfn)
       → Denies (if anew then part.WalkAnew gfn else part.Walk gfn)
-  walk_denies true S = anew_denies S
-  walk_denies false S = next_denies S
+  walk_denies true alone outside S = anew_denies S
+  walk_denies false alone outside S = next_denies alone outside S
 
   -- It forbids writes in the leaf.
   pub leaf_denies : IsPart z v a (part.Protect gfn) → Denies (part.Protect gfn)
   leaf_denies S =
-      entry_denies (tree_kept z v a (part.Protect gfn) 0 S P) t.walk (walk_linked z v P a S.there S.needs.saw.over.there)
+      entry_denies (tree_kept z v a (part.Protect gfn) 0 S P) t.walk (alone_linked z v P a S.there S.needs.alone S.needs.outside S.needs.saw.over.there)
       ((P.held a S.there).table S.needs.saw.over.there) gfn
       (without_write t.walk.entry) None S.needs.saw.over.span left
     where

@@ -33,10 +33,9 @@ use Rattle.mmu_core.specs.invariant.InvalidatedPart.{may_use}
 use Rattle.mmu_core.specs.invariant.TopicsInvariant.{TopicsInvariant}
 use Rattle.mmu_core.specs.forms.access.AccessKnows.{AccessKnows}
 use Rattle.mmu_core.specs.machine.View.{View, stepped}
-use Rattle.mmu_core.proofs.held.UsableKept.{vcpu_below}
 use Rattle.mmu_core.proofs.forms.access.AccessParts.{AreSmall}
 use Rattle.mmu_core.specs.forms.access.Cached.{covers}
-use Rattle.mmu_core.proofs.forms.access.CachedKept.{found_has, used_covers}
+use Rattle.mmu_core.proofs.forms.access.CachedKept.{found_has, used_covers, vcpu_below}
 use Rattle.mmu_core.proofs.lines.EitherPlace.{either_place}
 use Rattle.mmu_core.proofs.lines.KnowsKept.{step_knows}
 use Rattle.mmu_core.proofs.forms.access.UsedTranslations.{uses_allows}
