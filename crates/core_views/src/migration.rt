@@ -7,7 +7,7 @@ use std::fmt;
 
 /// How far the migration of the guest has come: its pages are copied while it runs, and the
 /// last ones once it has been stopped.
-#[derive(Clone, Copy, PartialEq, Eq, Drop)]
+#[derive(Clone, Copy, Drop)]
 pub enum Migration {
     /// None was started, or the guest was resumed since.
     Unstarted,
@@ -64,7 +64,7 @@ impl Migration {
 
 /// A content word of the image of guest memory that isn't 0: of a slot, by its ID, of a
 /// page of it, counted from its first, and which word of the page it is.
-#[derive(Clone, Copy, PartialEq, Eq, Drop)]
+#[derive(Clone, Copy, Drop)]
 pub struct ImageWord {
     pub id: u64,
     pub page: u64,

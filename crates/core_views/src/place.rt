@@ -12,7 +12,7 @@ pub enum Place {
 }
 
 /// A word of a slot in its slot set.
-#[derive(Clone, Copy, PartialEq, Eq, Drop)]
+#[derive(Clone, Copy, Drop)]
 pub enum SlotField {
     Base,
     Pages,
@@ -100,7 +100,7 @@ pub enum SlotChangePlace {
 }
 
 /// Guest frames, from `start` up to `end`, which isn't one of them.
-#[derive(Clone, Copy, PartialEq, Eq, Drop)]
+#[derive(Clone, Copy, Drop)]
 pub struct FrameRange {
     pub start: u64,
     pub end: u64,
@@ -130,7 +130,7 @@ pub enum WriteProtectPlace {
 /// kvm_main.c, `kvm_mmu_invalidate_begin`; tdp_mmu.c, `kvm_tdp_mmu_unmap_gfn_range`): under the
 /// lock alone it is counted among the open ones, the leaves of its range are zapped, and
 /// what virtual processors have cached is flushed.
-#[derive(Clone, Copy, PartialEq, Eq, Drop)]
+#[derive(Clone, Copy, Drop)]
 pub enum BeginPlace {
     /// Tries to take the lock alone.
     Exclude,
@@ -164,7 +164,7 @@ pub enum BeginPlace {
 /// The steps that end an invalidation, in their order (kvm_main.c,
 /// `kvm_mmu_invalidate_end`): under the lock alone the sequence number is raised, and then
 /// one less is open.
-#[derive(Clone, Copy, PartialEq, Eq, Drop)]
+#[derive(Clone, Copy, Drop)]
 pub enum EndPlace {
     /// Tries to take the lock alone.
     Exclude,
@@ -258,7 +258,7 @@ pub enum LogPlace {
 }
 
 /// Why a fault is to begin anew (locking.rst; tdp_mmu.c, `RET_PF_RETRY`).
-#[derive(Clone, Copy, Debug, PartialEq, Eq, Drop)]
+#[derive(Clone, Copy, Debug, Drop)]
 pub enum Cause {
     /// So many invalidations are open, over guest frames from `start` up to
     /// `end`, the fault's among them.
@@ -305,7 +305,7 @@ pub enum FaultEnd {
 }
 
 /// The word that a check of a look-up loads next.
-#[derive(Clone, Copy, PartialEq, Eq, Drop)]
+#[derive(Clone, Copy, Drop)]
 pub enum CheckStage {
     /// How many invalidations are open.
     Count,

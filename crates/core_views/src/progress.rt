@@ -5,7 +5,7 @@ ghost use Rattle.core_views.specs.Held.{first_progress};
 use crate::{Actor, Place, Sizes, Translation};
 
 /// What a turn's step found: the word and its value.
-#[derive(Clone, Copy, PartialEq, Eq, Drop)]
+#[derive(Clone, Copy, Drop)]
 pub struct Seen {
     pub word: u32,
     pub value: u64,

@@ -2,7 +2,7 @@ use crate::{Slot, SlotField};
 
 /// Where an actor is, as its own state word tells the others (KVM's
 /// vcpu-requests.rst, "VCPU Mode").
-#[derive(Clone, Copy, PartialEq, Eq, Drop)]
+#[derive(Clone, Copy, Drop)]
 pub enum Stay {
     /// In no section, and not in the guest.
     Outside,
@@ -46,7 +46,7 @@ pub struct SlotSearch {
 }
 
 /// A host word, and the page that it is of.
-#[derive(Clone, Copy, PartialEq, Eq, Drop)]
+#[derive(Clone, Copy, Drop)]
 pub struct HostLook {
     pub page: u64,
     pub word: u64,
@@ -54,7 +54,7 @@ pub struct HostLook {
 
 /// What was seen of host pages in a row, from the one that was looked at on, which are to be
 /// mapped as one (mmu.rst, "Large pages").
-#[derive(Clone, Copy, PartialEq, Eq, Drop)]
+#[derive(Clone, Copy, Drop)]
 pub struct HostRow {
     /// How many pages were looked at, the first one among them.
     pub looked: u64,
@@ -69,7 +69,7 @@ pub struct HostRow {
 
 /// Which words of the invalidations were loaded under the lock, in the order of
 /// the check.
-#[derive(Clone, Copy, PartialEq, Eq, Drop)]
+#[derive(Clone, Copy, Drop)]
 pub enum Checked {
     /// None, or not in this order.
     Nothing,
@@ -88,7 +88,7 @@ pub enum Checked {
 
 /// Host pages, one after the other, that are changed as one: an aligned run of them, which is a
 /// span of the level.
-#[derive(Clone, Copy, PartialEq, Eq, Drop)]
+#[derive(Clone, Copy, Drop)]
 pub struct PageRun {
     /// The page of the run that was looked at.
     pub first: u64,
@@ -103,7 +103,7 @@ pub struct PageRun {
 /// What an invalidation is of: the guest frames that slots give to host pages, or those of
 /// a slot, from the first up to, but without, the one after the last. None where `end` is
 /// `start`.
-#[derive(Clone, Copy, PartialEq, Eq, Drop)]
+#[derive(Clone, Copy, Drop)]
 pub struct Invalidated {
     /// The host pages that are to change; `None` where a slot is to be moved or deleted.
     pub pages: Option<PageRun>,
@@ -141,7 +141,7 @@ pub struct Invalidations {
 /// A flush of what all virtual processors have cached (vcpu-requests.rst,
 /// `KVM_REQ_TLB_FLUSH`): in the order of their places each is asked for it, and then each
 /// awaited.
-#[derive(Clone, Copy, PartialEq, Eq, Drop)]
+#[derive(Clone, Copy, Drop)]
 pub struct Flush {
     /// How many were asked since the actor took the lock alone with no invalidation of its own
     /// open.
@@ -202,7 +202,7 @@ pub struct OwnedPage {
 
 /// A frame that an actor owns alone: claimed, or that of a page which it has moved away, and
 /// not given back.
-#[derive(Clone, Copy, PartialEq, Eq, Drop)]
+#[derive(Clone, Copy, Drop)]
 pub struct OwnedFrame {
     pub frame: u64,
     /// How many of its words are filled with those of a page.

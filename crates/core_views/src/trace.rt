@@ -12,7 +12,7 @@ pub type Words = Sequence<u64>;
 pub type Lines = Sequence<Line>;
 
 /// What a guest access does to its content word.
-#[derive(Clone, Copy, PartialEq, Eq, Drop)]
+#[derive(Clone, Copy, Drop)]
 pub enum Op {
     Read,
     /// Stores this number.
@@ -77,7 +77,7 @@ impl Slot {
 /// What a host thread does to one of its pages. It is what KVM's MMU notifiers tell of
 /// (api.rst, `KVM_CAP_SYNC_MMU`: changes in the backing of a slot are reflected into
 /// the guest).
-#[derive(Clone, Copy, PartialEq, Eq, Drop)]
+#[derive(Clone, Copy, Drop)]
 pub enum HostChange {
     /// Copies it to a frame that no page names, and names that.
     Move,
@@ -90,7 +90,7 @@ pub enum HostChange {
 }
 
 /// How much a host thread maps as one of a run of its pages (mmu.rst, "Large pages").
-#[derive(Clone, Copy, PartialEq, Eq, Drop)]
+#[derive(Clone, Copy, Drop)]
 pub enum RunChange {
     /// Maps the run that begins at the page as one large page of this level.
     Huge(u8),
@@ -99,7 +99,7 @@ pub enum RunChange {
 }
 
 /// What a line does to the migration of the guest.
-#[derive(Clone, Copy, Debug, PartialEq, Eq, Drop)]
+#[derive(Clone, Copy, Debug, Drop)]
 pub enum MigrationCall {
     /// Starts it: each page of each slot is to be copied.
     Start,
@@ -251,7 +251,7 @@ pub struct Header {
 
 /// How long the turns of a schedule item go on. They end before where the actor
 /// has no line left.
-#[derive(Clone, Copy, PartialEq, Eq, Drop)]
+#[derive(Clone, Copy, Drop)]
 pub enum Until {
     /// So many turns, 1 to 10,000,000.
     Turns(u32),
@@ -262,7 +262,7 @@ pub enum Until {
 }
 
 /// An item of the schedule: whose turns are next, and until when.
-#[derive(Clone, Copy, PartialEq, Eq, Drop)]
+#[derive(Clone, Copy, Drop)]
 pub struct Item {
     pub actor: Actor,
     pub until: Until,

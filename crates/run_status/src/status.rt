@@ -5,7 +5,7 @@ use core_views::Actor;
 use trace_reader::Reason;
 
 /// How a run of a program ended.
-#[derive(Clone, Copy, PartialEq, Eq, Drop)]
+#[derive(Clone, Copy, Drop)]
 pub enum Status {
     /// The command did all its work, and all of its output was written.
     Done,

@@ -2,7 +2,7 @@ ghost use Rattle.std.specs.Prelude.{◌≡◌};
 ghost use Rattle.trace_reader.specs.Reasons.{reason_name};
 
 /// Why a line is refused: the first check that it fails, in this order.
-#[derive(Clone, Copy, Debug, PartialEq, Eq, Drop)]
+#[derive(Clone, Copy, Drop)]
 pub enum Reason {
     /// More than 16,777,216 bytes of input stand up to its end, its LF counted.
     Size,
