@@ -39,7 +39,7 @@ fn check_part(stage: CheckStage) -> PartStep
 }
 
 /// The step of this place.
-pub(crate) fn part(place: FaultPlace, gfn: u64, topics: &Topics) -> PartStep
+pub fn part(place: FaultPlace, gfn: u64, topics: &Topics) -> PartStep
     requires page { place ≡ Host → page_of topics.now.search.slot gfn < 2 ^ 64 }
     requires filled { place ≡ Fill → words_filled topics.now.owned < 512 }
     ensures { result ≡ fault_part place gfn topics.now }

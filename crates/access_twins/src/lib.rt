@@ -10,4 +10,4 @@ pub use access::{
     access_note, fill_cache as access_caches, frame_used, part as access_part, stay_next, touch,
 };
 pub use cached::{asks_flush, flush, lookup};
-pub use fault::next as fault_next;
+pub use fault::{next as fault_next, part as fault_part};

@@ -117,6 +117,7 @@ fn step_walk(hand: &mut Hand, again: bool, found: u64)
 }
 
 // After the touch.
+#[inline(always)]
 fn step_touch(hand: &mut Hand, found: u64)
     requires left { length hand.old.core.answers < length hand.old.core.lines }
     requires part { PartRests hand.old.core }
@@ -210,7 +211,7 @@ fn step_fault(hand: &mut Hand, place: FaultPlace, waits: bool, found: u64)
 }
 
 /// The step of an access. Nothing is done where the next step is of a line of another form.
-#[inline(never)]
+#[inline(always)]
 pub(crate) fn step_access(hand: &mut Hand, kind: Kind, found: u64) -> bool
     requires enabled { Enabled hand.old.core kind }
     requires left { length hand.old.core.answers < length hand.old.core.lines }

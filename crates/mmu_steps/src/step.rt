@@ -1,6 +1,7 @@
 //! The step that a hand allows, and the hand after it.
 ghost use Rattle.std.specs.Prelude.{◌≡◌, ◌≢◌, ◌<◌, ◌+◌, Some, length, true, false};
 ghost use Rattle.core_views.specs.declared.place.AccessPlace.{AccessPlace};
+ghost use Rattle.core_views.specs.declared.place.AccessPlace.TheVariants as stay;
 ghost use Rattle.core_views.specs.declared.place.LogPlace.{LogPlace};
 ghost use Rattle.core_views.specs.declared.place.Place.TheVariants as at;
 ghost use Rattle.core_views.specs.Sizes.{AreSizes};
@@ -21,10 +22,10 @@ ghost use Rattle.spte_words.specs.Areas.{size_of};
 use crate::delays::{delays_behind, is_delay, steps_behind};
 use crate::stay::step_access;
 use crate::waits::Waiting;
-use access_twins::{access_note, access_part, flush, touch};
+use access_twins::{access_note, access_part, fault_part, flush, touch};
 use core_views::{
-    AccessPlace, Answer, AnsweredLine, Command, HostRunPlace, Kind, Leaving, Line, LogPlace, Place,
-    SplitPlace,
+    AccessPlace, Answer, AnsweredLine, Command, FaultPlace, HostPlace, HostRunPlace, Kind, Leaving,
+    Line, LogPlace, Place, SplitPlace, Stay, StepKind,
 };
 use manager_twins::{
     host_first, host_note, host_outcome, host_part, host_run_note, host_run_outcome, host_run_part,
@@ -32,8 +33,9 @@ use manager_twins::{
     slot_change_note, slot_change_outcome, slot_change_part, split_note, split_outcome, split_part,
 };
 use mmu_core::{LogNext, Outcome};
-use part_steps::{PartStep, Task};
-use part_twins::{Hand, kind_of, part_task, step_topics};
+use part_steps::{PartStep, Task, map_of};
+use part_twins::{Hand, go, kind_of, own_task, part_task, step_topics, walk_task};
+use spte_words::Area;
 
 // Where a line begins. (Few steps begin one: kept out of the way of the others.)
 #[inline(never)]
@@ -129,6 +131,40 @@ fn kind_of_form(hand: &Hand, line: &Line) -> Kind
     kind_made(&task, hand)
 }
 
+// The next step of a line that changes a host page, and stands here.
+#[inline(never)]
+fn host_kind(place: HostPlace, hand: &Hand, line: &Line) -> Kind
+    requires left { length hand.now.core.answers < length hand.now.core.lines }
+    requires rests { Rests hand.now.core }
+    requires line { line.now ≡ line_at hand.now.core.state.place hand.now.core }
+    requires place { at.Host place ≡ place_at hand.now.core.state.place hand.now.core }
+    ensures { Enabled hand.now.core result }
+{
+    let Command::ChangeHost { page, change } = &line.command else {
+        unreachable!()
+    };
+    let step = host_part(place, *page, *change, hand);
+    let note = host_note(place, *page, hand);
+    kind_made(&part_task(hand, step, note), hand)
+}
+
+// The next step of a fault that stands here.
+#[inline(never)]
+fn fault_kind(place: FaultPlace, hand: &Hand, line: &Line) -> Kind
+    requires left { length hand.now.core.answers < length hand.now.core.lines }
+    requires rests { Rests hand.now.core }
+    requires line { line.now ≡ line_at hand.now.core.state.place hand.now.core }
+    requires place { at.Access (stay.Fault place) ≡ place_at hand.now.core.state.place hand.now.core }
+    ensures { Enabled hand.now.core result }
+{
+    let Command::Access { gfn, .. } = &line.command else {
+        unreachable!()
+    };
+    let step = fault_part(place, *gfn, hand.topics());
+    let note = access_note(AccessPlace::Fault(place));
+    kind_made(&part_task(hand, step, note), hand)
+}
+
 // The next step of an access that stands here, in the guest or before it.
 #[inline(always)]
 fn stay_kind(place: AccessPlace, hand: &Hand, line: &Line) -> Kind
@@ -141,19 +177,28 @@ fn stay_kind(place: AccessPlace, hand: &Hand, line: &Line) -> Kind
     let Command::Access { gfn, word, op } = &line.command else {
         unreachable!()
     };
+    let state = hand.progress();
+    let own = state.sizes.index_of(state.actor);
     match place {
-        AccessPlace::Enter { .. } => kind_made(&part_task(hand, PartStep::Enter, 0), hand),
-        AccessPlace::Pause { .. } => kind_made(&part_task(hand, PartStep::Pause, 0), hand),
-        AccessPlace::Root { .. } => kind_made(&part_task(hand, PartStep::Root, 0), hand),
-        AccessPlace::Walk { .. } => kind_made(&part_task(hand, PartStep::Walk(*gfn), 0), hand),
+        AccessPlace::Enter { .. } => kind_made(&own_task(PartStep::Enter, own, 0), hand),
+        AccessPlace::Pause { .. } => {
+            kind_made(&Task::load(StepKind::Control, Area::Pause, 0, 0), hand)
+        }
+        AccessPlace::Root { .. } => {
+            kind_made(&Task::load(StepKind::Control, Area::Root, 0, 0), hand)
+        }
+        AccessPlace::Walk { .. } => {
+            let map = map_of(&state.sizes);
+            kind_made(&walk_task(&map, &hand.topics().walk, *gfn, 0), hand)
+        }
         AccessPlace::Touch => kind_made(&touch(hand, *gfn, *word, *op), hand),
         AccessPlace::Leave(Leaving::Reached { .. }) => {
-            kind_made(&part_task(hand, PartStep::Leave, 1), hand)
+            kind_made(&own_task(PartStep::Leave, own, 1), hand)
         }
         AccessPlace::Leave(Leaving::Faults { .. }) => {
-            kind_made(&part_task(hand, PartStep::Leave, 0), hand)
+            kind_made(&own_task(PartStep::Leave, own, 0), hand)
         }
-        AccessPlace::Fault(_) => kind_of_form(hand, line),
+        AccessPlace::Fault(place) => fault_kind(place, hand, line),
     }
 }
 
@@ -171,6 +216,7 @@ pub fn next_kind(hand: &Hand) -> Kind
         (Place::Between, Command::Access { .. }) => {
             stay_kind(AccessPlace::Enter { again: false }, hand, line)
         }
+        (Place::Host(place), _) => host_kind(place, hand, line),
         _ => kind_of_form(hand, line),
     }
 }
@@ -358,9 +404,9 @@ fn step_line(hand: &mut Hand, kind: Kind, found: u64)
     }
 }
 
-// The effect of a step on the topics of the hand.
+// The effect of a step on the topics of the hand, where it may ask for the sizes.
 #[inline(never)]
-fn advance_topics(hand: &mut Hand, kind: Kind, found: u64)
+fn step_with_sizes(hand: &mut Hand, kind: Kind, found: u64)
     requires sizes { AreSizes hand.old.core.state.sizes }
     requires room { HasRoom (kind_named kind.code) hand.old.core.topics }
     ensures core { hand.new.core ≡ record hand.old.core { topics = topics_after hand.old.core.state.sizes kind hand.old.core.topics found } }
@@ -368,6 +414,24 @@ fn advance_topics(hand: &mut Hand, kind: Kind, found: u64)
 {
     let sizes = hand.progress().sizes;
     step_topics(&sizes, kind, hand.topics_mut(), found);
+}
+
+// The effect of a step on the topics of the hand. Those steps of an access that ask for no sizes
+// copy none.
+#[inline(always)]
+#[tactic(auto, unfolding(part_steps::specs::TopicSteps::topics_after))]
+fn advance_topics(hand: &mut Hand, kind: Kind, found: u64)
+    requires sizes { AreSizes hand.old.core.state.sizes }
+    requires room { HasRoom (kind_named kind.code) hand.old.core.topics }
+    ensures core { hand.new.core ≡ record hand.old.core { topics = topics_after hand.old.core.state.sizes kind hand.old.core.topics found } }
+    ensures room { hand.new.room ≡ hand.old.room }
+{
+    match kind.named() {
+        StepKind::Enter => go(hand.topics_mut(), Stay::Guest),
+        StepKind::Leave => go(hand.topics_mut(), Stay::Outside),
+        StepKind::Read | StepKind::Write | StepKind::Add => {}
+        _ => step_with_sizes(hand, kind, found),
+    }
 }
 
 /// Makes the effect of a step on the hand, where the step answered `found`.

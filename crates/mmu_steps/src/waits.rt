@@ -37,6 +37,7 @@ pub enum Waiting {
 
 impl Waiting {
     // By the kind of a step.
+    #[inline(always)]
     fn by_kind(kind: StepKind, hand: &Hand) -> Self
         requires { AreSizes hand.now.core.state.sizes }
         ensures { result ≡ waiting_at kind hand.now.core }
@@ -74,6 +75,7 @@ impl Waiting {
     /// that found a writer, the page or frame that it tries is gone, it finds the lock taken, it
     /// gives the lock back under which it saw invalidations of others open, it finds another
     /// actor in the guest or in a section, or a virtual processor that has yet to flush.
+    #[inline(always)]
     pub fn of(kind: Kind, hand: &Hand) -> Self
         requires left { length hand.now.core.answers < length hand.now.core.lines }
         requires enabled { Enabled hand.now.core kind }
@@ -84,6 +86,7 @@ impl Waiting {
     }
 
     /// Whether the step waits that answered `found`.
+    #[inline(always)]
     pub fn waits(&self, found: u64) -> bool
         requires { HasTried self.now }
         ensures { result ≡ waits self.now found }

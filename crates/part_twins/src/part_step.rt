@@ -183,9 +183,9 @@ fn slot(map: &WordMap, search: &SlotSearch, note: u64) -> Task
     )
 }
 
-// Loads the guest frame's entry in the table that the walk has come to.
+/// Loads the guest frame's entry in the table that the walk has come to.
 #[inline(always)]
-fn walk(map: &WordMap, walk: &TableWalk, gfn: u64, note: u64) -> Task
+pub fn walk(map: &WordMap, walk: &TableWalk, gfn: u64, note: u64) -> Task
     requires map { IsWordMap map.now }
     requires from { 1 ≤ walk.now.level }
     requires to { walk.now.level ≤ 4 }
@@ -422,9 +422,9 @@ fn give_frame(owned: Option<OwnedFrame>, note: u64) -> Task
     )
 }
 
-// What the step does with the actor's own state word.
+/// What the step does with the actor's own state word.
 #[inline(always)]
-fn own_task(step: PartStep, own: u64, note: u64) -> Task
+pub fn own_task(step: PartStep, own: u64, note: u64) -> Task
     ensures area { result.area ≡ Area.State }
     ensures index { result.index ≡ own }
     ensures enter { step ≡ Enter → result ≡ works StepKind.Enter Area.State own guest_bits note }

@@ -9,7 +9,7 @@ ghost use Rattle.core_views.specs.declared.topics.PageRun.{PageRun};
 ghost use Rattle.spte_words.specs.Areas.{number_of};
 ghost use Rattle.spte_words.specs.Entries.{word_below};
 ghost use Rattle.spte_words.specs.declared.area.Area.TheVariants as Area;
-ghost use Rattle.part_steps.specs.ControlBits.{is_content};
+ghost use Rattle.part_steps.specs.ControlBits.{frames_begin, is_content, is_frame_map, is_pool_map, map_begins};
 ghost use Rattle.part_steps.specs.StayTopics.{begun, let_go, may_search, may_walk};
 ghost use Rattle.part_steps.specs.WalkTopics.{gone_down, is_in_table, owed_after, still_owned, swapped, walked};
 ghost use Rattle.part_steps.specs.PageTopics.{claimed, filled_more, is_won, published, searched, tried, tried_bit};
@@ -44,8 +44,8 @@ fn may_search(stay: Stay, hold: Hold) -> bool
     stay == Stay::Section || hold == Hold::Exclusive
 }
 
-// The actor is there from now on, and has nothing of tables, slots and look-ups.
-fn go(topics: &mut Topics, stay: Stay)
+/// The actor is there from now on, and has nothing of tables, slots and look-ups.
+pub fn go(topics: &mut Topics, stay: Stay)
     ensures { topics.new ≡ begun stay topics.old }
 {
     topics.stay = stay;
@@ -488,6 +488,27 @@ fn look_at_map(begins: u32, ends: u32, word: u32, claim: &mut MapClaim, found: u
     }
 }
 
+// A word was loaded, which is one of the pool's map or of the map of frames, if it is. The lone
+// words of the machine's control stand before both.
+#[inline(always)]
+fn look_at_maps(sizes: &Sizes, word: u32, topics: &mut Topics, found: u64)
+    requires { AreSizes sizes.now }
+    ensures { topics.new ≡ record topics.old {
+      claim = at_word (is_pool_map sizes.now word) (map_begins sizes.now) word topics.old.claim found;
+      frames = record topics.old.frames { claim = at_word (is_frame_map sizes.now word) (frames_begin sizes.now) word topics.old.frames.claim found };
+    } }
+{
+    if word < Area::State.number() {
+        return;
+    }
+    let map = map_of(sizes);
+    let pool_map = map.word_of(Area::PoolMap, 0);
+    let frame_map = map.word_of(Area::FrameMap, 0);
+    let log = map.word_of(Area::Log, 0);
+    look_at_map(pool_map, frame_map, word, &mut topics.claim, found);
+    look_at_map(frame_map, log, word, &mut topics.frames.claim, found);
+}
+
 // The load takes the snapshot of a look-up.
 fn takes_snapshot(word: u32, hold: Hold) -> bool
     ensures { result ≡ takes_snapshot word hold }
@@ -528,12 +549,7 @@ fn control(sizes: &Sizes, word: u32, topics: &mut Topics, found: u64)
         topics.pause = found;
     }
     note(word, topics.hold, &mut topics.invalidations, found);
-    let map = map_of(sizes);
-    let pool_map = map.word_of(Area::PoolMap, 0);
-    let frame_map = map.word_of(Area::FrameMap, 0);
-    let log = map.word_of(Area::Log, 0);
-    look_at_map(pool_map, frame_map, word, &mut topics.claim, found);
-    look_at_map(frame_map, log, word, &mut topics.frames.claim, found);
+    look_at_maps(sizes, word, topics, found);
 }
 
 // Whether the word is one of a frame.
