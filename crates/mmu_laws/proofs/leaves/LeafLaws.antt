@@ -48,7 +48,8 @@ use Rattle.mmu_core.proofs.words.SlotLists.{only_one_holds}
 use Rattle.mmu_core.proofs.forms.access.CachedKept.{used_covers}
 use Rattle.mmu_core.proofs.forms.access.UsedTranslations.{uses_allows}
 use Rattle.mmu_core.proofs.machine.Stepping.{line_allowed}
-use Rattle.mmu_core.proofs.held.UsableKept.{vcpu_below, used_agrees}
+use Rattle.mmu_core.proofs.held.UsableKept.{used_agrees}
+use Rattle.mmu_core.proofs.forms.access.CachedKept.{vcpu_below}
 use Rattle.core_views.specs.Traces.{IsCommandFor}
 use Rattle.mmu_core.proofs.forms.access.FaultSame.{both}
 use Rattle.mmu_core.proofs.pages.Linked.{walk_linked}

@@ -33,7 +33,7 @@ use Rattle.mmu_core.specs.invariant.InvalidatedPart.{may_use}
 use Rattle.mmu_core.specs.invariant.TopicsInvariant.{TopicsInvariant}
 use Rattle.mmu_core.specs.forms.access.AccessKnows.{AccessKnows}
 use Rattle.mmu_core.specs.machine.View.{View, stepped}
-use Rattle.mmu_core.proofs.held.UsableKept.{vcpu_below}
+use Rattle.mmu_core.proofs.forms.access.CachedKept.{vcpu_below}
 use Rattle.mmu_core.proofs.forms.access.AccessParts.{AreSmall}
 use Rattle.mmu_core.specs.forms.access.Cached.{covers}
 use Rattle.mmu_core.proofs.forms.access.CachedKept.{found_has, used_covers}
