@@ -1,9 +1,9 @@
 -- What a step leaves of the role of an old slot set's page, where a slot line is about to give the page back.
-use Rattle.mmu_core.specs.declared.log_next.LogNext.{LogNext}
-use Rattle.mmu_core.specs.declared.log_next.LogNext.TheVariants as reads_next
-use Rattle.mmu_core.specs.forms.log.LogOutcomes.{after_log}
-use Rattle.mmu_core.specs.forms.log.LogSteps.{log_next, log_reads}
-use Rattle.core_views.specs.SlotCommands.{changes_slot, slot_armed, slot_invalidated}
+use Rattle.mmu_core.specs.declared.outcome.Outcome.{Outcome}
+use Rattle.mmu_core.specs.declared.outcome.Outcome.TheVariants.{Goes}
+use Rattle.mmu_core.specs.lines.Forms.{outcome_at}
+use Rattle.mmu_core.proofs.lines.Forms.{GoesElsewhere, outcome_elsewhere}
+use Rattle.core_views.specs.SlotCommands.{slot_armed, slot_invalidated}
 use Rattle.core_views.specs.LogCommands.{is_all_set}
 use Rattle.core_views.specs.declared.place.FrameRange.{FrameRange}
 use Rattle.core_views.specs.declared.place.WriteProtectPlace.TheVariants as protect
@@ -12,7 +12,7 @@ use Rattle.part_steps.specs.LogHoldings.{log_end}
 use Rattle.mmu_core.specs.declared.write_protect.WriteProtectNext.{WriteProtectNext}
 use Rattle.mmu_core.specs.declared.write_protect.WriteProtectNext.TheVariants as protects_next
 use Rattle.mmu_core.specs.orders.WriteProtectSteps.{protect_next}
-use Rattle.std.proofs.Common.{◌≡◌, ◌≢◌, ◌<◌, ℕ, List, refl, sym, subst, ap, ◌∙◌}
+use Rattle.std.proofs.Common.{◌≡◌, ◌≢◌, ◌<◌, ℕ, refl, sym, subst, ap, ◌∙◌}
 use Rattle.std.specs.Prelude.{Bool, true, false, ◌+◌, ◌==◌, nat_lt, if◌then◌else◌, Option, Some, None, is_some}
 use Rattle.core_views.specs.declared.place.Place.{Place}
 use Rattle.core_views.specs.declared.place.Place.TheVariants as place
@@ -24,7 +24,6 @@ use Rattle.core_views.specs.declared.place.EndPlace.TheVariants as ends
 use Rattle.core_views.specs.declared.sizes.Sizes.{Sizes}
 use Rattle.core_views.specs.declared.topics.Topics.{Topics}
 use Rattle.core_views.specs.declared.trace.Command.{Command}
-use Rattle.core_views.specs.declared.trace.Command.TheVariants.{Access, ChangeHost, ChangeRun, Split}
 use Rattle.core_views.specs.declared.trace.Line.{Line}
 use Rattle.core_views.specs.declared.trace.Op.{Op}
 use Rattle.core_views.specs.declared.trace.Op.TheVariants.{Read}
@@ -56,7 +55,7 @@ use Rattle.mmu_core.specs.forms.slot_change.SlotChangeSteps.{after_grace, after_
 use Rattle.mmu_core.specs.forms.slot_change.SlotChangeSteps.{slot_target}
 use Rattle.mmu_core.specs.forms.slot_change.SlotChangeSteps.{after_set_claim, watch_next, slot_change_note, slot_change_outcome, slot_change_task}
 use Rattle.mmu_core.specs.invariant.TopicsInvariant.{TopicsInvariant}
-use Rattle.mmu_core.specs.machine.View.{View, answer_in, stepped, upd, words_after, hand_after}
+use Rattle.mmu_core.specs.machine.View.{View, answer_in, stepped, upd, words_after}
 use Rattle.mmu_core.proofs.machine.Columns.{upd_other, upd_same}
 use Rattle.mmu_core.proofs.pages.OwnedBehind.{retired_is}
 use Rattle.mmu_core.proofs.machine.PartStepping.{IsPart}
@@ -147,24 +146,10 @@ module _ (words : Area → ℕ → ℕ) (h : Held) (command : Command) (x : ℕ)
       ∙ upd_same (words area.Role) (page_retired h.topics.retired) 0
   change_cleared p = no_give (role_behind p) x (topics_behind p) p command h refl
 
--- A line that changes no slot stands at no place of a slot line.
-other_cleared : (role : ℕ → ℕ) (q : Place) (c : Command) (h : Held) → changes_slot c ≡ false → KnowsPart q c h → PlaceCleared role q h.topics
-other_cleared role (place.SlotChange q) c h none K = let changes = K.0 in absurd (cc (changes, none))
-other_cleared role _ c h none K = tt
-
--- So it is after its step.
-not_cleared : (z : Sizes) (v : View) (a : ℕ) (line : Line) (c : Command) (p : Place) → changes_slot c ≡ false → IsStep z v a line c p
-    → Invariant z (stepped a line c p v) → (stepped a line c p v).hand a ≡ hand_after line c p (v.hand a) (answer_in (task_at p c (v.hand a)) v.words)
-    → HandCleared (stepped a line c p v) a
-not_cleared z v a line c p none S after same =
-    let w : View = stepped a line c p v in
-    let command : (w.hand a).state.line.command ≡ c = ap (λ (h : Held). h.state.line.command) same ∙ S.command_is in
-    other_cleared (w.words area.Role) (w.hand a).state.place c (w.hand a) none
-    (subst (λ c. KnowsPart (w.hand a).state.place c (w.hand a)) command (after.knows a S.there))
-
-reads_cleared : (role : ℕ → ℕ) (n : LogNext) (words : List ℕ) (t : Topics) → PlaceCleared role (place_after (after_log n words)) t
-reads_cleared role (reads_next.Goes p) words t = tt
-reads_cleared role _ words t = tt
+-- A line of another form goes on to no place of a slot line.
+elsewhere_cleared : (role : ℕ → ℕ) (o : Outcome) (t : Topics) → GoesElsewhere o → PlaceCleared role (place_after o) t
+elsewhere_cleared role (Goes (place.SlotChange p)) t other = absurd other
+elsewhere_cleared role _ t other = tt
 
 pub own_cleared : (z : Sizes) (v : View) (a : ℕ) (line : Line) (c : Command) (p : Place) → IsStep z v a line c p → Invariant z (stepped a line c p v)
     → HandCleared (stepped a line c p v) a
@@ -173,20 +158,11 @@ own_cleared z v a line command (place.SlotChange p) S after =
     subst (HeldCleared (w.words area.Role)) (sym (upd_same v.hand a _))
     (change_cleared v.words (v.hand a) command (answer_in (slot_change_task p (v.hand a) command) v.words) p)
 own_cleared z v a line command place.Between S after = absurd S.begun
-own_cleared z v a line (Access gfn word op) (place.Access p) S after =
-    not_cleared z v a line (Access gfn word op) (place.Access p) refl S after (upd_same v.hand a _)
-own_cleared z v a line (ChangeHost page change) (place.Host p) S after =
-    not_cleared z v a line (ChangeHost page change) (place.Host p) refl S after (upd_same v.hand a _)
-own_cleared z v a line (ChangeRun page change) (place.HostRun p) S after =
-    not_cleared z v a line (ChangeRun page change) (place.HostRun p) refl S after (upd_same v.hand a _)
-own_cleared z v a line command (place.Log p) S after =
-    let w : View = stepped a line command (place.Log p) v in
-    let x : ℕ = answer_in (task_at (place.Log p) command (v.hand a)) v.words in
+own_cleared z v a line command p S after =
+    let w : View = stepped a line command p v in
+    let x : ℕ = answer_in (task_at p command (v.hand a)) v.words in
     subst (HeldCleared (w.words area.Role)) (sym (upd_same v.hand a _))
-    (reads_cleared (w.words area.Role) (log_next p command (v.hand a) x) (log_reads p command (v.hand a) x) _)
-own_cleared z v a line (Split gfn) (place.Split p) S after =
-    not_cleared z v a line (Split gfn) (place.Split p) refl S after (upd_same v.hand a _)
-own_cleared z v a line _ _ S after = absurd S.holds
+    (elsewhere_cleared (w.words area.Role) (outcome_at p command (v.hand a) x) _ (outcome_elsewhere p command (v.hand a) x refl))
 
 -- ---- another actor's step
 

@@ -13,6 +13,7 @@ use Rattle.mmu_core.specs.lines.Forms.{RestsAt, first_place}
 use Rattle.mmu_core.specs.machine.Enabled.{IsNext}
 use Rattle.mmu_core.specs.machine.Steps.{line_at, place_at}
 use Rattle.mmu_core.specs.machine.Turns.{line_of}
+use Rattle.mmu_core.proofs.lines.Forms.{rests_for}
 use Rattle.mmu_core.proofs.machine.Which.{has_line_is, is_next}
 use Rattle.step_seats.specs.LineTurns.{TurnsLine, line_turn}
 use Rattle.step_seats.specs.Seats.{Seat}
@@ -22,12 +23,8 @@ use Rattle.huge_split.specs.Splits.{IsEndOf, splits}
 last_place : (p : Place) (c : Command) (h : Held) (v : ℕ) (answer : Answer) → splits c ≡ true → RestsAt p c h → Done answer ≡ line_turn p c h v → IsEndOf p
 last_place (place.Split (End e)) (Split gfn) h v answer is R told = (e, refl)
 last_place (place.Split q) (Split gfn) h v answer is R told = absurd (cc told)
-last_place (place.Access p) (Split gfn) h v answer is R told = absurd R
-last_place (place.Host p) (Split gfn) h v answer is R told = absurd R
-last_place (place.HostRun p) (Split gfn) h v answer is R told = absurd R
-last_place (place.SlotChange p) (Split gfn) h v answer is R told = absurd (let changes = R.0 in cc changes)
-last_place (place.Log p) (Split gfn) h v answer is R told = absurd (let reads = R.0 in cc reads)
 last_place place.Between (Split gfn) h v answer is R told = absurd (cc told)
+last_place p (Split gfn) h v answer is R told = absurd (let mine = rests_for p (Split gfn) h tt R in cc mine)
 last_place _ _ h v answer is R told = absurd (cc is)
 
 -- Where the line begins with the step it doesn't end with it.

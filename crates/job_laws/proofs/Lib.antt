@@ -5,6 +5,6 @@ pub mod EndSteps
 pub mod Ended
 pub mod Turned
 pub mod OneChange
-pub mod ReadOut
 pub mod SplitSteps
 pub mod SplitLines
+pub mod forms

@@ -13,7 +13,7 @@ use Rattle.core_views.specs.declared.place.Place.TheVariants as place
 use Rattle.core_views.specs.declared.sizes.Sizes.{Sizes}
 use Rattle.core_views.specs.declared.topics.Topics.{Topics}
 use Rattle.core_views.specs.declared.trace.Command.{Command}
-use Rattle.core_views.specs.declared.trace.Command.TheVariants.{Access, ChangeHost, ChangeRun, Split}
+use Rattle.core_views.specs.declared.trace.Command.TheVariants.{Access}
 use Rattle.core_views.specs.declared.trace.Line.{Line}
 use Rattle.core_views.specs.declared.trace.Op.{Op}
 use Rattle.core_views.specs.Events.{after_all, facts_after, under_after}
@@ -39,6 +39,7 @@ use Rattle.mmu_core.specs.machine.View.{word_in}
 use Rattle.mmu_core.specs.machine.Worlds.{IsStart, history}
 use Rattle.mmu_core.proofs.machine.LineRuns.{history_one_more, legal_one_more}
 use Rattle.mmu_core.proofs.machine.Which.{events_of_line, has_line_is}
+use Rattle.mmu_laws.proofs.EachForm.{line_under}
 use Rattle.mmu_laws.specs.flat.FlatInvariant.{UnderAt}
 use Rattle.mmu_laws.proofs.flat.EveryHistory.{after_append, every_flat, every_history}
 use Rattle.mmu_laws.proofs.flat.Told.{line_behind, told, told_line}
@@ -70,16 +71,7 @@ under_line : (stood : Place) (z : Sizes) (pool : ℕ → ℕ) (line other : Line
 under_line place.Between z pool line other command t kinds f u at is all =
     same_behind kinds (facts_after (Begun line) f) (under_after (Begun line) f u) all
 under_line stood z pool line other command t kinds f u at (inl between) all = absurd (cc between)
-under_line (place.Access p) z pool line other (Access gfn word op) t kinds f u at (inr is) all = same_behind kinds f u all ∙ at.0 ∙ sym is
-under_line (place.Access p) z pool line other _ t kinds f u at (inr is) all = absurd at
-under_line (place.SlotChange p) z pool line other command t kinds f u at (inr is) all = same_behind kinds f u all ∙ at.0 ∙ sym is
-under_line (place.Host p) z pool line other (ChangeHost page change) t kinds f u at (inr is) all = same_behind kinds f u all ∙ at.0 ∙ sym is
-under_line (place.Host p) z pool line other _ t kinds f u at (inr is) all = absurd at
-under_line (place.HostRun p) z pool line other (ChangeRun page change) t kinds f u at (inr is) all = same_behind kinds f u all ∙ at.0 ∙ sym is
-under_line (place.HostRun p) z pool line other _ t kinds f u at (inr is) all = absurd at
-under_line (place.Split p) z pool line other (Split gfn) t kinds f u at (inr is) all = same_behind kinds f u all ∙ at.0 ∙ sym is
-under_line (place.Split p) z pool line other _ t kinds f u at (inr is) all = absurd at
-under_line (place.Log p) z pool line other command t kinds f u at (inr is) all = same_behind kinds f u all ∙ at.0 ∙ sym is
+under_line stood z pool line other command t kinds f u at (inr is) all = same_behind kinds f u all ∙ line_under stood z pool other command t u tt at ∙ sym is
 
 -- ---- the line's history
 

@@ -41,7 +41,7 @@ use Rattle.mmu_core.specs.machine.Steps.{line_at, place_at, task_of}
 use Rattle.mmu_core.specs.machine.View.{View, answer_in, hand_after, view, word_in}
 use Rattle.mmu_core.specs.orders.ClaimSteps.{claim_next}
 use Rattle.mmu_core.specs.orders.ShareSteps.{share_next}
-use Rattle.mmu_core.proofs.forms.log.LogTold.{log_knows_reads}
+use Rattle.mmu_core.proofs.lines.Forms.{knows_for}
 use Rattle.mmu_core.proofs.held.Grace.{hand_there}
 use Rattle.mmu_core.proofs.lines.EitherPlace.{either_place, one_place}
 use Rattle.mmu_core.proofs.lines.KnowsKept.{step_knows}
@@ -154,12 +154,8 @@ module _ (e : SplitEnd) (exchange : tells_exchange e ≡ true) where
       → ToEnd e (place_after (outcome_at p c h v)) → Led p h v
   led (place.Split q) (command.Split g) h v gfn is under K at =
       record { stood = q; is = refl; from = comes_from q h.state.sizes h.topics v at }
-  led (place.Access q) (command.Split g) h v gfn is under K at = absurd K
-  led (place.Host q) (command.Split g) h v gfn is under K at = absurd K
-  led (place.HostRun q) (command.Split g) h v gfn is under K at = absurd K
-  led (place.SlotChange q) (command.Split g) h v gfn is under K at = absurd (let changes = K.0 in cc changes)
-  led (place.Log q) (command.Split g) h v gfn is under K at = absurd (let reads = log_knows_reads q (command.Split g) h K in cc reads)
   led place.Between (command.Split g) h v gfn is under K at = absurd under
+  led p (command.Split g) h v gfn is under K at = absurd (let mine = knows_for p (command.Split g) h under K in cc mine)
   led p _ h v gfn is under K at = absurd (cc is)
 
   -- Such a step answers no line.

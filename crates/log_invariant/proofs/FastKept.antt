@@ -16,7 +16,7 @@ use Rattle.core_views.specs.declared.place.Place.TheVariants as place
 use Rattle.core_views.specs.declared.sizes.Sizes.{Sizes}
 use Rattle.core_views.specs.declared.topics.Topics.{Topics}
 use Rattle.core_views.specs.declared.trace.Command.{Command}
-use Rattle.core_views.specs.declared.trace.Command.TheVariants.{Access, ChangeHost}
+use Rattle.core_views.specs.declared.trace.Command.TheVariants.{Access}
 use Rattle.core_views.specs.declared.trace.Line.{Line}
 use Rattle.core_views.specs.declared.trace.Op.{Op}
 use Rattle.core_views.specs.Held.{Held}
@@ -42,11 +42,9 @@ use Rattle.mmu_core.proofs.lines.Forms.{outcome_apart}
 use Rattle.mmu_core.specs.machine.Outcomes.{place_after}
 use Rattle.mmu_core.specs.machine.View.{View, part_stepped, stepped, answer_in}
 use Rattle.mmu_core.proofs.lines.EitherPlace.{either_place}
-use Rattle.mmu_core.proofs.forms.host.HostPlaces.{host_goes}
 use Rattle.mmu_core.proofs.machine.Columns.{at_upd}
-use Rattle.mmu_core.proofs.machine.GoesOn.{GoesToNoAccess, simple_is_no_access}
+use Rattle.mmu_core.proofs.machine.GoesOn.{GoesToNoAccess}
 use Rattle.mmu_core.proofs.machine.Stepping.{IsStep}
-use Rattle.mmu_core.proofs.forms.slot_change.SlotChangePlaces.{slot_change_goes}
 use Rattle.log_invariant.specs.LogInvariant.{FastWritesAt, is_within_fast}
 use Rattle.log_invariant.proofs.StepPlaces.{of_hand}
 use Rattle.core_views.specs.declared.topics.SlotSearch.{SlotSearch}
@@ -56,9 +54,7 @@ use Rattle.part_steps.specs.PartTasks.{word_looked, words_filled}
 use Rattle.mmu_core.specs.forms.access.CheckSteps.{snapshot_taken}
 use Rattle.mmu_core.specs.orders.ClaimSteps.{claim_next}
 use Rattle.mmu_core.specs.forms.access.FastSteps.{is_last_word}
-use Rattle.mmu_core.specs.forms.host.HostSteps.{host_outcome}
 use Rattle.mmu_core.specs.orders.ShareSteps.{share_next}
-use Rattle.mmu_core.specs.forms.slot_change.SlotChangeSteps.{slot_change_outcome}
 use Rattle.mmu_core.specs.lines.PartAt.{task_at}
 use Rattle.mmu_core.specs.declared.claim.FreeMap.TheVariants.{Pages}
 
@@ -200,13 +196,8 @@ no_access _ command none = tt
 
 fast_after : (p : Place) (command : Command) (h : Held) (v : ℕ) → FastWritesAt p command → FastWritesAt (place_after (outcome_at p command h v)) command
 fast_after (place.Access p) (Access gfn word op) h v F = access_writes p h gfn word op v F
-fast_after (place.SlotChange p) command h v F =
-    no_access (slot_change_outcome p command h v) command (simple_is_no_access (slot_change_outcome p command h v) (slot_change_goes p command h v).1)
-fast_after (place.Host p) (ChangeHost page change) h v F = no_access (host_outcome p page h v) (ChangeHost page change) (host_goes p page h v).1
-fast_after (place.HostRun p) command h v F = no_access (outcome_at (place.HostRun p) command h v) command (outcome_apart (place.HostRun p) command h v tt)
-fast_after (place.Log p) command h v F = no_access (outcome_at (place.Log p) command h v) command (outcome_apart (place.Log p) command h v tt)
-fast_after (place.Split p) command h v F = no_access (outcome_at (place.Split p) command h v) command (outcome_apart (place.Split p) command h v tt)
-fast_after p command h v F = F
+fast_after (place.Access p) _ h v F = F
+fast_after p command h v F = no_access (outcome_at p command h v) command (outcome_apart p command h v tt)
 
 pub fast_kept : (z : Sizes) (v : View) (a : ℕ) (line : Line) (command : Command) (p : Place) → IsStep z v a line command p → FastAt z v
     → FastAt z (stepped a line command p v)

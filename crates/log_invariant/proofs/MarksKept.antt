@@ -4,10 +4,8 @@ use Rattle.std.specs.Prelude.{◌-◌, ◌%◌, Bool, true, false, Option, Some,
 use Rattle.core_views.specs.declared.place.AccessPlace.TheVariants as access
 use Rattle.core_views.specs.declared.place.FaultPlace.{FaultPlace}
 use Rattle.core_views.specs.declared.place.FaultPlace.TheVariants as fault
-use Rattle.core_views.specs.declared.place.LogPlace.TheVariants as log
 use Rattle.core_views.specs.declared.place.Place.{Place}
 use Rattle.core_views.specs.declared.place.Place.TheVariants as place
-use Rattle.core_views.specs.declared.place.SlotChangePlace.TheVariants as change
 use Rattle.core_views.specs.declared.sizes.Sizes.{Sizes}
 use Rattle.core_views.specs.declared.topics.Topics.{Topics}
 use Rattle.core_views.specs.declared.trace.Command.{Command}
@@ -44,7 +42,8 @@ use Rattle.mmu_core.proofs.machine.PartStepping.{IsPart, behind_part}
 use Rattle.mmu_core.proofs.machine.Stepping.{IsStep}
 use Rattle.mmu_core.proofs.words.PartTopics.{is_there, part_topics_is}
 use Rattle.log_invariant.specs.LogInvariant.{FastWritesAt, IsMarkingAt, LogInvariant}
-use Rattle.log_invariant.proofs.StepPlaces.{is_special, is_usual, of_hand, step_at, topics_named, usual_at}
+use Rattle.log_invariant.proofs.StepPlaces.{of_hand, step_at, topics_named}
+use Rattle.log_invariant.proofs.UsualSteps.{by_test, puts_at, puts_leaf}
 use Rattle.log_invariant.proofs.FastKept.{fast_here}
 
 -- The part of the invariant, of a view.
@@ -95,12 +94,6 @@ put_for_write gfn false t logged allows =
 
 -- ---- what was owed before a step
 
--- The step puts a leaf, or fixes one.
-abbrev puts_leaf : PartStep → Bool
-puts_leaf (part.Leaf gfn write) = true
-puts_leaf (part.Fix gfn) = true
-puts_leaf _ = false
-
 -- What is owed after any other step was owed before it.
 owed_was : (step : PartStep) (h : Held) (x gfn : ℕ) → PartNeeds step h → puts_leaf step ≡ false → (part_topics step h.topics x).owed ≡ Some gfn
     → h.topics.owed ≡ Some gfn
@@ -111,22 +104,12 @@ owed_was (part.Link frame) h x gfn needs other owed =
 owed_was part.Mark h x gfn needs other owed = absurd (cc owed)
 owed_was _ h x gfn needs other owed = owed
 
-usual_puts_none : (step : PartStep) → is_special step ≡ false → puts_leaf step ≡ false
-usual_puts_none (part.Leaf gfn write) usual = absurd (cc usual)
-usual_puts_none (part.Fix gfn) usual = absurd (cc usual)
-usual_puts_none _ usual = refl
-
 idle_puts_none : (step : PartStep) → needs_line step ≡ false → puts_leaf step ≡ false
 idle_puts_none (part.Leaf gfn write) free = absurd (cc free)
 idle_puts_none (part.Fix gfn) free = absurd (cc free)
 idle_puts_none _ free = refl
 
 -- ---- the line's own step
-
--- A place of a mark isn't one of the usual.
-marking_unusual : (p : Place) (command : Command) (gfn : ℕ) → is_usual p ≡ true → IsMarkingAt p command gfn → ⊥
-marking_unusual (place.Access (access.Fault (fault.Mark fast))) command gfn usual marking = cc usual
-marking_unusual _ command gfn usual marking = marking
 
 -- its place after an exchange
 abbrev MarksNext : Bool → Bool → Bool → FaultPlace → ℕ → ℕ → Op → ℕ → Type 0
@@ -159,19 +142,12 @@ marks_after (place.Access (access.Fault (fault.Mark fast))) (Access at word op) 
 marks_after (place.Access (access.Fault (fault.Leaf writes))) command h x gfn K F needs was owed = absurd K
 marks_after (place.Access (access.Fault fault.Fix)) command h x gfn K F needs was owed = absurd K
 marks_after (place.Access (access.Fault (fault.Mark fast))) command h x gfn K F needs was owed = absurd K
-marks_after (place.SlotChange change.Publish) command h x gfn K F needs was owed = absurd (was owed)
-marks_after (place.Log (log.Take begun)) command h x gfn K F needs was owed = absurd (was owed)
-marks_after p command h x gfn K F needs was owed = absurd (none p refl needs was owed)
+marks_after p command h x gfn K F needs was owed = absurd (was (before (part_at p command h) needs (puts_at p command h refl) owed))
   where
-    none : (p : Place) → is_usual p ≡ true → ((step : PartStep) → part_at p command h ≡ Some step → PartNeeds step h)
-        → (h.topics.owed ≡ Some gfn → IsMarkingAt p command gfn) → (behind_part (part_at p command h) h.topics x).owed ≡ Some gfn → ⊥
-    none p usual needs was owed =
-        marking_unusual p command gfn usual (was (by (part_at p command h) needs (λ step is. usual_at p command h step usual is) owed))
-      where
-        by : (s : Option PartStep) → ((step : PartStep) → s ≡ Some step → PartNeeds step h) → ((step : PartStep) → s ≡ Some step → is_special step ≡ false)
-            → (behind_part s h.topics x).owed ≡ Some gfn → h.topics.owed ≡ Some gfn
-        by None needs usual owed = owed
-        by (Some step) needs usual owed = owed_was step h x gfn (needs step refl) (usual_puts_none step (usual step refl)) owed
+    before : (s : Option PartStep) → ((step : PartStep) → s ≡ Some step → PartNeeds step h) → by_test puts_leaf s ≡ false
+        → (behind_part s h.topics x).owed ≡ Some gfn → h.topics.owed ≡ Some gfn
+    before None needs other owed = owed
+    before (Some step) needs other owed = owed_was step h x gfn (needs step refl) other owed
 
 -- ---- each step
 

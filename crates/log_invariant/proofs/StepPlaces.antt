@@ -1,21 +1,14 @@
--- At which places of a line its step publishes a slot set, puts or fixes a leaf, marks a page, or takes bits of the log.
+-- The step of a line is the step of a part that its place names, or a touch; and what is so where its hand stands is so there.
 use Rattle.std.proofs.Common.{◌≡◌, ℕ, refl, sym, subst, ap, ◌∙◌}
-use Rattle.std.specs.Prelude.{Bool, true, false, Option, Some, None}
-use Rattle.core_views.specs.declared.place.AccessPlace.TheVariants as access
-use Rattle.core_views.specs.declared.place.FaultPlace.TheVariants as fault
-use Rattle.core_views.specs.declared.place.LogPlace.{LogPlace}
-use Rattle.core_views.specs.declared.place.LogPlace.TheVariants as log
+use Rattle.std.specs.Prelude.{Option, Some, None}
 use Rattle.core_views.specs.declared.place.Place.{Place}
 use Rattle.core_views.specs.declared.place.Place.TheVariants as place
-use Rattle.core_views.specs.declared.place.SlotChangePlace.TheVariants as change
 use Rattle.core_views.specs.declared.sizes.Sizes.{Sizes}
 use Rattle.core_views.specs.declared.trace.Command.{Command}
-use Rattle.core_views.specs.declared.trace.Command.TheVariants.{Access}
 use Rattle.core_views.specs.declared.trace.Line.{Line}
 use Rattle.core_views.specs.declared.trace.Op.{Op}
 use Rattle.core_views.specs.Held.{Held}
 use Rattle.part_steps.specs.declared.part_step.PartStep.{PartStep}
-use Rattle.part_steps.specs.declared.part_step.PartStep.TheVariants as part
 use Rattle.part_steps.specs.declared.task.Task.{Task}
 use Rattle.part_steps.specs.PartTasks.{own_index, part_task}
 use Rattle.mmu_core.specs.invariant.Invariant.{Invariant}
@@ -23,20 +16,19 @@ use Rattle.mmu_core.specs.invariant.TopicsInvariant.{TopicsInvariant}
 use Rattle.mmu_core.specs.forms.access.AccessSteps.{task_by, touch_of}
 use Rattle.mmu_core.specs.lines.Forms.{note_at, part_at, first_place}
 use Rattle.mmu_core.specs.lines.PartAt.{task_at, touch_at}
-use Rattle.mmu_core.specs.forms.log.Readings.{Reading, reading_at}
 use Rattle.mmu_core.specs.machine.View.{View}
 use Rattle.mmu_core.proofs.invariant.Kept.{makes_at}
 use Rattle.mmu_core.proofs.invariant.QuietKept.{touched}
 use Rattle.mmu_core.proofs.forms.access.AccessParts.{AreSmall}
-use Rattle.mmu_core.proofs.machine.PartStepping.{IsPart, is_publish, behind_part}
+use Rattle.mmu_core.proofs.machine.PartStepping.{IsPart, behind_part}
 use Rattle.mmu_core.proofs.machine.Stepping.{IsStep}
 use Rattle.part_steps.specs.Tasks.{kind_of_task}
 use Rattle.part_steps.specs.TopicSteps.{topics_after}
 use Rattle.mmu_core.proofs.words.PartTopics.{is_there, part_topics_is}
 use Rattle.mmu_core.proofs.lines.KnowsKept.{touch_topics}
 use Rattle.core_views.specs.SlotSets.{MemorySlots}
-pub use Rattle.log_invariant.proofs.UsualSteps.{is_special, is_usual, takes_bits, usual_at}
-use Rattle.log_invariant.proofs.UsualSteps.{special_by, usual_by}
+pub use Rattle.log_invariant.proofs.UsualSteps.{publishes, publishes_none, takes_bits}
+pub use Rattle.log_invariant.proofs.forms.log.TakesBits.{takes, takes_none, takes_of, takes_there}
 use Rattle.mmu_core.specs.machine.Steps.{line_at, next_line, place_at}
 
 -- ---- the step of a line, with the place that names it
@@ -92,74 +84,3 @@ of_hand z v a line command p S Is first is =
     by : (q : Place) → Is q h.state.line.command → Is (place_at q h) (line_at q h).command
     by place.Between e = first h.state.sizes h.slots (next_line h).command e
     by _ e = e
-
--- What no step is that isn't special, none is at such a place.
-abbrev by_test : (PartStep → Bool) → Option PartStep → Bool
-by_test test None = false
-by_test test (Some step) = test step
-
-none_usual : (test : PartStep → Bool) → ((step : PartStep) → is_special step ≡ false → test step ≡ false) → (p : Place) (command : Command) (h : Held)
-    → is_usual p ≡ true → by_test test (part_at p command h) ≡ false
-none_usual test never p command h usual = by (part_at p command h) (usual_by p command h usual)
-  where
-    by : (s : Option PartStep) → special_by s ≡ false → by_test test s ≡ false
-    by None e = refl
-    by (Some step) e = never step e
-
--- ---- a line takes bits of the log at one place of a reading alone
-
-abbrev pub takes_there : LogPlace → Bool
-takes_there (log.Take begun) = true
-takes_there _ = false
-
-abbrev pub takes_of : Option Reading → Bool
-takes_of None = false
-takes_of (Some r) = takes_there r.place
-
--- The reading that is under way takes bits with its step.
-abbrev pub takes : Place → Command → Held → Bool
-takes p command h = takes_of (reading_at p command h)
-
-none_taken : (step : PartStep) → is_special step ≡ false → takes_bits step ≡ false
-none_taken (part.Take word mask) usual = absurd (cc usual)
-none_taken _ usual = refl
-
-takes_at : (p : Place) (command : Command) (h : Held) → takes p command h ≡ false → by_test takes_bits (part_at p command h) ≡ false
-takes_at (place.Access (access.Fault (fault.Leaf writes))) (Access gfn word op) h other = refl
-takes_at (place.Access (access.Fault (fault.Leaf writes))) command h other = refl
-takes_at (place.Access (access.Fault fault.Fix)) (Access gfn word op) h other = refl
-takes_at (place.Access (access.Fault fault.Fix)) command h other = refl
-takes_at (place.Access (access.Fault (fault.Mark fast))) (Access gfn word op) h other = refl
-takes_at (place.Access (access.Fault (fault.Mark fast))) command h other = refl
-takes_at (place.SlotChange change.Publish) command h other = refl
-takes_at (place.Log (log.Take begun)) command h other = absurd (cc other)
-takes_at p command h other = none_usual takes_bits none_taken p command h refl
-
-pub takes_none : (p : Place) (command : Command) (h : Held) (step : PartStep) → takes p command h ≡ false → part_at p command h ≡ Some step → takes_bits step ≡
-    false
-takes_none p command h step other is = sym (ap (by_test takes_bits) is) ∙ takes_at p command h other
-
--- ---- a line publishes a slot set at one place alone
-
-abbrev pub publishes : Place → Bool
-publishes (place.SlotChange change.Publish) = true
-publishes _ = false
-
-none_published : (step : PartStep) → is_special step ≡ false → is_publish step ≡ false
-none_published part.Publish usual = absurd (cc usual)
-none_published _ usual = refl
-
-publishes_at : (p : Place) (command : Command) (h : Held) → publishes p ≡ false → by_test is_publish (part_at p command h) ≡ false
-publishes_at (place.Access (access.Fault (fault.Leaf writes))) (Access gfn word op) h other = refl
-publishes_at (place.Access (access.Fault (fault.Leaf writes))) command h other = refl
-publishes_at (place.Access (access.Fault fault.Fix)) (Access gfn word op) h other = refl
-publishes_at (place.Access (access.Fault fault.Fix)) command h other = refl
-publishes_at (place.Access (access.Fault (fault.Mark fast))) (Access gfn word op) h other = refl
-publishes_at (place.Access (access.Fault (fault.Mark fast))) command h other = refl
-publishes_at (place.SlotChange change.Publish) command h other = absurd (cc other)
-publishes_at (place.Log (log.Take begun)) command h other = refl
-publishes_at p command h other = none_usual is_publish none_published p command h refl
-
-pub publishes_none : (p : Place) (command : Command) (h : Held) (step : PartStep) → publishes p ≡ false → part_at p command h ≡ Some step
-    → is_publish step ≡ false
-publishes_none p command h step other is = sym (ap (by_test is_publish) is) ∙ publishes_at p command h other

@@ -44,6 +44,7 @@ use Rattle.mmu_core.specs.orders.InvalidateSteps.{begin_part, end_part}
 use Rattle.mmu_core.specs.forms.slot_change.SlotChangeSteps.{slot_change_part, slot_target}
 use Rattle.mmu_core.specs.orders.WriteProtectSteps.{protect_part}
 use Rattle.mmu_core.proofs.orders.ClaimMade.{claim_is}
+use Rattle.mmu_core.proofs.machine.PartStepping.{is_publish}
 use Rattle.mmu_core.proofs.lines.EitherPlace.{either_place}
 use Rattle.mmu_core.proofs.orders.ShareMade.{share_is}
 use Rattle.core_views.specs.declared.place.HostRunPlace.{HostRunPlace}
@@ -165,6 +166,66 @@ usual_by (place.Log p) command h usual = usual_in_log p h command usual
 usual_by (place.Split p) (Split gfn) h usual = usual_in_split p gfn h.topics
 usual_by _ _ h usual = refl
 
--- The step that such a place names isn't special.
-pub usual_at : (p : Place) (command : Command) (h : Held) (step : PartStep) → is_usual p ≡ true → part_at p command h ≡ Some step → is_special step ≡ false
-usual_at p command h step usual is = sym (ap special_by is) ∙ usual_by p command h usual
+-- What no step is that isn't special, none is at such a place.
+abbrev pub by_test : (PartStep → Bool) → Option PartStep → Bool
+by_test test None = false
+by_test test (Some step) = test step
+
+pub none_usual : (test : PartStep → Bool) → ((step : PartStep) → is_special step ≡ false → test step ≡ false) → (p : Place) (command : Command) (h : Held)
+    → is_usual p ≡ true → by_test test (part_at p command h) ≡ false
+none_usual test never p command h usual = by (part_at p command h) (usual_by p command h usual)
+  where
+    by : (s : Option PartStep) → special_by s ≡ false → by_test test s ≡ false
+    by None e = refl
+    by (Some step) e = never step e
+
+-- ---- a line publishes a slot set at one place alone
+
+abbrev pub publishes : Place → Bool
+publishes (place.SlotChange change.Publish) = true
+publishes _ = false
+
+none_published : (step : PartStep) → is_special step ≡ false → is_publish step ≡ false
+none_published part.Publish usual = absurd (cc usual)
+none_published _ usual = refl
+
+publishes_at : (p : Place) (command : Command) (h : Held) → publishes p ≡ false → by_test is_publish (part_at p command h) ≡ false
+publishes_at (place.Access (access.Fault (fault.Leaf writes))) (Access gfn word op) h other = refl
+publishes_at (place.Access (access.Fault (fault.Leaf writes))) command h other = refl
+publishes_at (place.Access (access.Fault fault.Fix)) (Access gfn word op) h other = refl
+publishes_at (place.Access (access.Fault fault.Fix)) command h other = refl
+publishes_at (place.Access (access.Fault (fault.Mark fast))) (Access gfn word op) h other = refl
+publishes_at (place.Access (access.Fault (fault.Mark fast))) command h other = refl
+publishes_at (place.SlotChange change.Publish) command h other = absurd (cc other)
+publishes_at (place.Log (log.Take begun)) command h other = refl
+publishes_at p command h other = none_usual is_publish none_published p command h refl
+
+pub publishes_none : (p : Place) (command : Command) (h : Held) (step : PartStep) → publishes p ≡ false → part_at p command h ≡ Some step
+    → is_publish step ≡ false
+publishes_none p command h step other is = sym (ap (by_test is_publish) is) ∙ publishes_at p command h other
+
+-- ---- it puts or fixes a leaf at two places of a fault
+
+abbrev pub puts_leaf : PartStep → Bool
+puts_leaf (part.Leaf gfn write) = true
+puts_leaf (part.Fix gfn) = true
+puts_leaf _ = false
+
+abbrev pub puts_there : Place → Bool
+puts_there (place.Access (access.Fault (fault.Leaf writes))) = true
+puts_there (place.Access (access.Fault fault.Fix)) = true
+puts_there _ = false
+
+none_put : (step : PartStep) → is_special step ≡ false → puts_leaf step ≡ false
+none_put (part.Leaf gfn write) usual = absurd (cc usual)
+none_put (part.Fix gfn) usual = absurd (cc usual)
+none_put _ usual = refl
+
+pub puts_at : (p : Place) (command : Command) (h : Held) → puts_there p ≡ false → by_test puts_leaf (part_at p command h) ≡ false
+puts_at (place.Access (access.Fault (fault.Leaf writes))) command h other = absurd (cc other)
+puts_at (place.Access (access.Fault fault.Fix)) command h other = absurd (cc other)
+puts_at (place.Access (access.Fault (fault.Mark fast))) (Access gfn word op) h other = refl
+puts_at (place.Access (access.Fault (fault.Mark fast))) command h other = refl
+puts_at (place.SlotChange change.Publish) command h other = refl
+puts_at (place.Log (log.Take begun)) command h other = refl
+puts_at p command h other = none_usual puts_leaf none_put p command h refl

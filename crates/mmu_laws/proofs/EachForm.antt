@@ -1,4 +1,15 @@
 -- What is so of the lines of every form: the one place of the laws where it is told by the form. A form of line writes a clause in each of these.
+use Rattle.core_views.specs.HostRuns.{sets_run}
+use Rattle.part_steps.specs.declared.part_step.PartStep.TheVariants as part
+use Rattle.mmu_core.specs.lines.Forms.{tells_at}
+use Rattle.mmu_core.proofs.forms.log.LogPlaces.{log_plain}
+use Rattle.mmu_core.proofs.forms.split.SplitPlaces.{split_quiet}
+use Rattle.mmu_core.proofs.forms.split.SplitTold.{split_tells_so}
+use Rattle.mmu_laws.proofs.flat.QuietKinds.{AreQuiet, access_quiet, change_quiet, host_quiet, tells_of_logs}
+use Rattle.mmu_laws.proofs.forms.host_run.RunChangers.{no_access, no_host, no_slot_change, quiet_next}
+use Rattle.mmu_laws.proofs.forms.host_run.RunEvents.{run_tells_so}
+use Rattle.mmu_laws.proofs.forms.log.LogQuiet.{log_quiet}
+use Rattle.mmu_laws.proofs.forms.log.TakenStays.{ends_taking}
 use Rattle.mmu_laws.proofs.forms.host.HostFlat.{host_goes_on}
 use Rattle.mmu_laws.proofs.forms.host_run.HostRunFlat.{host_run_goes_on}
 use Rattle.std.specs.Prelude.{Bool, List, Option, Some, None, false, true}
@@ -105,6 +116,18 @@ first_at z pool y slots line command t u may fresh is = (is, first_set (change_a
     first_set None = fresh
     first_set (Some refusal) = fresh
 
+-- The flat line under way is the hand's, from its begin on.
+pub line_under : (p : Place) (z : Sizes) (pool : ℕ → ℕ) (line : Line) (command : Command) (t : Topics) (u : LineUnderWay) → IsUnderWay p
+    → UnderAt z pool p line command t u → u.line ≡ line
+line_under place.Between z pool line command t u begun U = absurd begun
+line_under (place.Access p) z pool line (Access gfn word op) t u begun U = U.0
+line_under (place.SlotChange p) z pool line command t u begun U = U.0
+line_under (place.Host p) z pool line (ChangeHost page change) t u begun U = U.0
+line_under (place.HostRun p) z pool line (ChangeRun page change) t u begun U = U.0
+line_under (place.Log p) z pool line command t u begun U = U.0
+line_under (place.Split p) z pool line (Split gfn) t u begun U = U.0
+line_under _ z pool line _ t u begun U = absurd U
+
 -- ---- how many steps are left
 
 -- The slot that the line asks for fits the machine.
@@ -141,3 +164,32 @@ form_nearer (place.Log p) command z h v begun may rests K left fits finds on =
 form_nearer (place.Split p) (Split gfn) z h v begun may rests K left fits finds on =
     split_nearer p gfn h v rests K (first_of_none (part_waits (split_part p gfn h.topics) h.topics v) false on)
 form_nearer _ _ z h v begun may rests K left fits finds on = absurd K
+
+-- ---- what its steps tell, and which host words they change
+
+-- A step tells nothing of logs but at a few places.
+pub tells_quiet : (p : Place) (command : Command) (h : Held) (v : ℕ) → tells_of_logs p ≡ false → ends_taking p command h ≡ false
+    → AreQuiet (tells_at p command h v)
+tells_quiet (place.Access p) (Access gfn word op) h v quiet on = access_quiet p h gfn word op v quiet
+tells_quiet (place.Access p) _ h v quiet on = tt
+tells_quiet (place.SlotChange p) command h v quiet on = change_quiet p h command v quiet
+tells_quiet (place.Host p) (ChangeHost page change) h v quiet on = host_quiet p page change h v
+tells_quiet (place.Host p) _ h v quiet on = tt
+tells_quiet (place.HostRun p) (ChangeRun page change) h v quiet on =
+    run_tells_so AreQuiet tt (λ other. (tt, tt)) (λ other refusal no_frame. (tt, (tt, tt))) p (λ at other entry. (tt, tt)) page change h v
+tells_quiet (place.HostRun p) _ h v quiet on = tt
+tells_quiet (place.Log p) command h v quiet on = log_quiet p command h v on
+tells_quiet (place.Split p) (Split gfn) h v quiet on = split_tells_so AreQuiet tt (tt, tt) p
+tells_quiet (place.Split p) _ h v quiet on = tt
+tells_quiet place.Between command h v quiet on = tt
+
+-- Only a line that sets a run changes the next page of one.
+pub next_is_runs : (p : Place) (command : Command) (h : Held) → part_at p command h ≡ Some part.ChangeNext → sets_run command ≡ true
+next_is_runs (place.Access p) (Access gfn word op) h at = absurd (no_access p gfn h.topics at)
+next_is_runs (place.Host p) (ChangeHost page change) h at = absurd (no_host p page change h (cc at))
+next_is_runs (place.SlotChange p) command h at = absurd (no_slot_change p h command (cc at))
+next_is_runs (place.Log p) command h at = absurd (quiet_next (log_part p h command) (log_plain p h command).quiet at)
+next_is_runs (place.HostRun p) (ChangeRun page change) h at = refl
+next_is_runs (place.Split p) (Split gfn) h at = absurd (quiet_next (split_part p gfn h.topics) (split_quiet p gfn h.topics) at)
+next_is_runs place.Between command h at = absurd (cc at)
+next_is_runs _ _ h at = absurd (cc at)

@@ -11,4 +11,3 @@ pub mod ArmedLogs
 pub mod RisingLists
 pub mod ToldFlat
 pub mod BitsKept
-pub mod NoReadings

@@ -8,7 +8,6 @@ use Rattle.core_views.specs.declared.answer.AnsweredLine.{AnsweredLine}
 use Rattle.core_views.specs.declared.cache.Translation.{Translation}
 use Rattle.core_views.specs.declared.place.AccessPlace.{AccessPlace}
 use Rattle.core_views.specs.declared.place.AccessPlace.TheVariants.{Enter}
-use Rattle.core_views.specs.declared.place.LogPlace.{LogPlace}
 use Rattle.core_views.specs.declared.place.Place.{Place}
 use Rattle.core_views.specs.declared.place.Place.TheVariants as place
 use Rattle.core_views.specs.declared.sizes.Sizes.{Sizes}
@@ -105,11 +104,6 @@ pub delay_is : (p : Place) (c d : Command) (h : Held) (o : Outcome) (v : ℕ) (w
     → delay ≡ (waits || (begins_anew p || (walks_again p && leaves_to_fault o))) → delay ≡ is_delay p c h o v
 delay_is p c d h o v waits delay same waits_is is =
     is ∙ ap (λ (b : Bool). b || (begins_anew p || (walks_again p && leaves_to_fault o))) (waits_is ∙ ap (λ (x : Command). line_waits p x h v) (sym same))
-
--- What was read stays where the line reads no log.
-pub reads_same : (p : Place) (command : Command) (h : Held) (v : ℕ) → ((q : LogPlace) → p ≢ place.Log q) → reads_at p command h v ≡ h.harvest
-reads_same (place.Log p) command h v other = absurd (other p refl)
-reads_same _ command h v other = refl
 
 -- The line that a hand has under way, or has answered last, is the one that the step was of.
 pub line_goes : (q : Place) (h : Held) → IsUnderWay q → line_under q h.lines (length h.answers) ≡ next_line h

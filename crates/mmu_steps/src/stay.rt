@@ -241,13 +241,7 @@ pub(crate) fn step_access(hand: &mut Hand, kind: Kind, found: u64) -> bool
             let waits = Waiting::of(kind, hand).waits(found);
             step_fault(hand, place, waits, found);
         }
-        Place::SlotChange(_)
-        | Place::Host(_)
-        | Place::HostRun(_)
-        | Place::Log(_)
-        | Place::Split(_) => {
-            return false;
-        }
+        _ => return false,
     }
     true
 }

@@ -21,8 +21,8 @@ use Rattle.mmu_core.specs.alone.LineAlone.{line_waits}
 use Rattle.mmu_core.specs.forms.access.FaultKnows.{FaultEndKnows, FaultKnows}
 use Rattle.mmu_core.specs.forms.access.FaultSteps.{fault_next}
 use Rattle.mmu_core.specs.lines.Forms.{KnowsPart, RestsAt}
+use Rattle.mmu_core.proofs.lines.Forms.{knows_for}
 use Rattle.mmu_core.specs.machine.Steps.{place_at}
-use Rattle.mmu_core.specs.machine.Turns.{line_of}
 use Rattle.step_seats.specs.declared.turn.Turn.{Turn}
 use Rattle.step_seats.specs.declared.turn.Turn.TheVariants.{More, Wait, Retry, Done}
 use Rattle.step_seats.specs.LineTurns.{WaitsElse, fault_turn, line_seen, line_turn}
@@ -51,9 +51,8 @@ module _ (job : AccessJob) (h : Held) where
   place_cause : (p : Place) (v : ℕ) → RestsAt p (Access job.gfn job.word job.op) h → KnowsPart p (Access job.gfn job.word job.op) h
       → HasItsCause (line_turn p (Access job.gfn job.word job.op) h v) job h
   place_cause (place.Access p) v R K = access_cause p v K
-  place_cause (place.SlotChange p) v R K = absurd (cc R.0)
-  place_cause (place.Log p) v R K = absurd (cc R.0)
-  place_cause _ v R K = tt
+  place_cause place.Between v R K = tt
+  place_cause p v R K = absurd (let mine = knows_for p (Access job.gfn job.word job.op) h tt K in cc mine)
 
   given_cause : (turn : Turn Answer) (waits : Bool) (way : Seen) (t : Turn Answer) → WaitsElse turn waits way t → HasItsCause t job h
       → HasItsCause turn job h

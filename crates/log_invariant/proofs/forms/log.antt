@@ -5,3 +5,4 @@ pub mod PassedPages
 pub mod ReadingExcuses
 pub mod TakenFrames
 pub mod ReadFrames
+pub mod TakesBits

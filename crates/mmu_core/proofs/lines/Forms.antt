@@ -5,7 +5,7 @@ use Rattle.core_views.specs.declared.trace.HostChange.{HostChange}
 use Rattle.core_views.specs.declared.trace.RunChange.{RunChange}
 use Rattle.core_views.specs.declared.trace.HostChange.TheVariants.{Move, Evict, Protect, Allow}
 use Rattle.std.proofs.Common.{◌≡◌, ◌⊎◌, ℕ, refl, ◌≢◌}
-use Rattle.std.specs.Prelude.{List, None, true, false}
+use Rattle.std.specs.Prelude.{Bool, List, None, true, false}
 use Rattle.core_views.specs.declared.answer.Answer.{Answer}
 use Rattle.core_views.specs.declared.answer.Answer.TheVariants.{Starved}
 use Rattle.core_views.specs.declared.place.HostRunPlace.TheVariants.{Look}
@@ -21,23 +21,25 @@ use Rattle.core_views.specs.declared.trace.MigrationCall.{MigrationCall}
 use Rattle.core_views.specs.Traces.{IsCommandFor, IsRunChange}
 use Rattle.core_views.specs.LogCommands.{read_refusal, takes_out}
 use Rattle.core_views.specs.declared.trace.Op.{Op}
+use Rattle.core_views.specs.declared.trace.Op.TheVariants.{Read}
+use Rattle.mmu_core.specs.declared.outcome.Outcome.{Outcome}
 use Rattle.core_views.specs.Held.{Held}
 use Rattle.core_views.specs.HostChanges.{moves_page}
-use Rattle.core_views.specs.SlotCommands.{change_at_once}
+use Rattle.core_views.specs.SlotCommands.{change_at_once, changes_slot}
 use Rattle.core_views.specs.SlotSets.{MemorySlots}
 use Rattle.part_steps.specs.PartSteps.{IsAtRest}
-use Rattle.mmu_core.specs.lines.Forms.{KnowsPart, Holds, AcceptsAt, RestsAt, first_place, outcome_at, tells_at}
+use Rattle.mmu_core.specs.lines.Forms.{KnowsPart, Holds, AcceptsAt, RestsAt, first_place, is_first, is_for, outcome_at, tells_at}
 use Rattle.spte_words.specs.declared.area.Area.{Area}
 use Rattle.mmu_core.specs.alone.AloneKnows.{FormAlone}
-use Rattle.mmu_core.specs.declared.outcome.Outcome.TheVariants.{Ends}
+use Rattle.mmu_core.specs.declared.outcome.Outcome.TheVariants.{Ends, Goes}
 use Rattle.mmu_core.specs.lines.Delays.{line_waits, begins_anew}
 use Rattle.mmu_core.specs.lines.Rests.{IsUnderWay}
-use Rattle.mmu_core.proofs.machine.GoesOn.{GoesToNoAccess, GoesUnderWay, IsNoAccess, IsSimple}
+use Rattle.mmu_core.proofs.machine.GoesOn.{GoesToNoAccess, GoesToSimple, GoesUnderWay, GoesWithin, IsNoAccess, IsSimple}
 use Rattle.mmu_core.proofs.slots.LiveStays.{OwnedStays}
-use Rattle.mmu_core.proofs.forms.slot_change.SlotChangePlaces.{slot_change_begins, slot_change_begins_known}
+use Rattle.mmu_core.proofs.forms.slot_change.SlotChangePlaces.{change_begins, slot_change_begins, slot_change_begins_known}
 use Rattle.mmu_core.proofs.forms.slot_change.SlotChangeClaims.{begins_without_scan}
 use Rattle.mmu_core.proofs.forms.host.HostClaims.{host_begins_without}
-use Rattle.mmu_core.proofs.forms.log.LogFirst.{HavePages, log_first_known}
+use Rattle.mmu_core.proofs.forms.log.LogFirst.{HavePages, log_begins, log_first_known}
 use Rattle.mmu_core.proofs.forms.log.LogTold.{log_fed, log_scans_none}
 use Rattle.mmu_core.specs.forms.log.LogSteps.{log_first}
 use Rattle.mmu_core.proofs.forms.access.AccessEnds.{access_laws}
@@ -75,8 +77,38 @@ simple_place p command h v simple = (laws_at p command).simple h v simple
 pub outcome_goes : (p : Place) (command : Command) (h : Held) (v : ℕ) → IsUnderWay p → GoesUnderWay (outcome_at p command h v)
 outcome_goes p command h v begun = (laws_at p command).goes h v begun
 
+-- It goes on to places of its form: so one that is no access to no place of one, and a simple one to simple ones.
+pub outcome_within : (p : Place) (command : Command) (h : Held) (v : ℕ) → GoesWithin p (outcome_at p command h v)
+outcome_within p command h v = (laws_at p command).within h v
+
 pub outcome_apart : (p : Place) (command : Command) (h : Held) (v : ℕ) → IsNoAccess p → GoesToNoAccess (outcome_at p command h v)
-outcome_apart p command h v other = (laws_at p command).apart h v other
+outcome_apart p command h v other = by (outcome_at p command h v) (outcome_within p command h v)
+  where
+    none : (p : Place) → IsNoAccess p → true ≡ is_for p (Access 0 0 Read) → ⊥
+    none (place.Access p) other e = other
+    none p other e = cc e
+
+    by : (o : Outcome) → GoesWithin p o → GoesToNoAccess o
+    by (Goes (place.Access q)) within = none p other (within (Access 0 0 Read))
+    by (Goes q) within = tt
+    by (Ends answer) within = tt
+
+pub outcome_simple : (p : Place) (command : Command) (h : Held) (v : ℕ) → IsSimple p → GoesToSimple (outcome_at p command h v)
+outcome_simple p command h v simple = by (outcome_at p command h v) (outcome_within p command h v)
+  where
+    none : (p : Place) → IsSimple p → true ≡ is_for p (Access 0 0 Read) → ⊥
+    none (place.Access p) simple e = simple
+    none p simple e = cc e
+
+    no_host : (p : Place) → IsSimple p → true ≡ is_for p (ChangeHost 0 Move) → ⊥
+    no_host (place.Host p) simple e = simple
+    no_host p simple e = cc e
+
+    by : (o : Outcome) → GoesWithin p o → GoesToSimple o
+    by (Goes (place.Access q)) within = none p simple (within (Access 0 0 Read))
+    by (Goes (place.Host q)) within = no_host p simple (within (ChangeHost 0 Move))
+    by (Goes q) within = tt
+    by (Ends answer) within = tt
 
 -- What its step needs; or the place is one of another form than the line's.
 pub other_rests : (p : Place) (command : Command) (h : Held) → IsNoAccess p → (RestsAt p command h → ⊥) ⊎ RestsOnPart p command h
@@ -86,9 +118,30 @@ other_rests p command h other = (laws_at p command).rests h other
 pub knows_prop : (p : Place) (command : Command) (h : Held) → IsNoAccess p → IsProp (KnowsPart p command h)
 knows_prop p command h other = (laws_at p command).knows_prop h other
 
+-- The place is one of lines with its command, as it knows, and as its step rests on.
+pub knows_for : (p : Place) (command : Command) (h : Held) → IsUnderWay p → KnowsPart p command h → is_for p command ≡ true
+knows_for p command h begun K = (laws_at p command).knows_for h begun K
+
+pub rests_for : (p : Place) (command : Command) (h : Held) → IsUnderWay p → RestsAt p command h → is_for p command ≡ true
+rests_for p command h begun R = (laws_at p command).rests_for h begun R
+
+-- A line of another form than those that change slots changes none.
+abbrev pub is_slot_change : Place → Bool
+is_slot_change (place.SlotChange p) = true
+is_slot_change _ = false
+
+pub changes_no_slot : (p : Place) (command : Command) → is_slot_change p ≡ false → is_for p command ≡ true → changes_slot command ≡ false
+changes_no_slot (place.SlotChange p) command other mine = absurd (cc other)
+changes_no_slot p (SetSlot id slot) other mine = absurd (cc mine)
+changes_no_slot p (DeleteSlot id) other mine = absurd (cc mine)
+changes_no_slot p (SetLog id on) other mine = absurd (cc mine)
+changes_no_slot _ _ other mine = refl
+
 -- No access stands at the place of another form.
 pub other_knows : (p : Place) (gfn word : ℕ) (op : Op) (h : Held) → IsNoAccess p → IsUnderWay p → KnowsPart p (Access gfn word op) h → ⊥
-other_knows p gfn word op h other begun K = (laws_at p (Access gfn word op)).no_access h other begun tt K
+other_knows place.Between gfn word op h other begun K = begun
+other_knows (place.Access p) gfn word op h other begun K = other
+other_knows p gfn word op h other begun K = let mine = knows_for p (Access gfn word op) h begun K in cc mine
 
 -- What it has loaded or stored stays, where the words of the line's own page do.
 pub loads_stay : (z : Sizes) (before : ℕ → ℕ) (set : ℕ) (after : ℕ → ℕ) (other : ℕ) (h : Held) → OwnedStays before after h → (p : Place) (command : Command)
@@ -127,7 +180,34 @@ tells_fed p command h v = by p command (tells_at p command h v) (place_tells p c
     by _ _ _ (OfHost q page change) other = host_fed q page change h v
     by _ _ _ (OfHostRun q page change) other = host_run_fed q page change h v
 
+-- A line of another form than a slot line goes on to no place of one.
+abbrev pub GoesElsewhere : Outcome → Type 0
+GoesElsewhere (Goes (place.SlotChange p)) = ⊥
+GoesElsewhere _ = Unit {0}
+
+pub outcome_elsewhere : (p : Place) (command : Command) (h : Held) (v : ℕ) → is_slot_change p ≡ false → GoesElsewhere (outcome_at p command h v)
+outcome_elsewhere p command h v other = by (outcome_at p command h v) (outcome_within p command h v)
+  where
+    none : (p : Place) → is_slot_change p ≡ false → true ≡ is_for p (DeleteSlot 0) → ⊥
+    none (place.SlotChange p) other e = cc other
+    none p other e = cc e
+
+    by : (o : Outcome) → GoesWithin p o → GoesElsewhere o
+    by (Goes (place.SlotChange q)) within = none p other (within (DeleteSlot 0))
+    by _ within = tt
+
 -- ---- where it begins
+
+-- A line begins there.
+pub begins_first : (z : Sizes) (slots : MemorySlots) (command : Command) → is_first (first_place z slots command) ≡ true
+begins_first z slots (Access gfn word op) = refl
+begins_first z slots (ChangeHost page change) = refl
+begins_first z slots (ChangeRun page change) = refl
+begins_first z slots (GetLog id) = log_begins (read_refusal (GetLog id) slots) (takes_out z.mode (GetLog id))
+begins_first z slots (ClearLog id first count words) =
+    let c : Command = ClearLog id first count words in log_begins (read_refusal c slots) (takes_out z.mode c)
+begins_first z slots (Split gfn) = refl
+begins_first z slots command = change_begins (change_at_once z command slots)
 
 -- Its first step is no end of a fault that begins anew.
 pub first_no_end : (z : Sizes) (slots : MemorySlots) (command : Command) → begins_anew (first_place z slots command) ≡ true → ⊥

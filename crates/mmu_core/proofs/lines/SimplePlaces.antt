@@ -30,7 +30,6 @@ use Rattle.mmu_core.specs.forms.host.HostSteps.{host_tells}
 use Rattle.mmu_core.specs.forms.host_run.HostRunSteps.{host_run_tells}
 use Rattle.mmu_core.specs.forms.log.LogTells.{log_tells}
 use Rattle.mmu_core.proofs.lines.LineClaims.{Claims, ClaimsNot, no_claim_between, no_scan_between, to_no_scan}
-use Rattle.mmu_core.proofs.machine.GoesOn.{GoesToSimple}
 use Rattle.mmu_core.proofs.machine.PartStepping.{raises}
 use Rattle.mmu_core.proofs.lines.LinesKept.{answers_more}
 use Rattle.mmu_core.specs.invariant.InvalidationsPart.{has_raised}
@@ -75,9 +74,8 @@ none_raised o line answers n none = let more = answers_more o line answers in om
 
 -- ---- a place of a simple form
 
--- A line that stands there goes on to such places, tells what it tells, raises the sequence number once at most, and claims a page or a frame or doesn't.
+-- A line that stands there tells what it tells, raises the sequence number once at most, and claims a page or a frame or doesn't.
 pub record SimplePlace (p : Place) (c : Command) (h : Held) (v : ℕ) : Type 0 where
-  pub goes : GoesToSimple (outcome_at p c h v)
   pub tells : Told h v p c (tells_at p c h v)
   pub raises : RaisesOn p c h v
   pub claims : RestsAt p c h → Claims p c h v ⊎ ClaimsNot p c h v
@@ -85,7 +83,6 @@ pub record SimplePlace (p : Place) (c : Command) (h : Held) (v : ℕ) : Type 0 w
 -- So it is between lines.
 pub between_simple : (c : Command) (h : Held) (v : ℕ) → SimplePlace place.Between c h v
 between_simple c h v = record {
-  goes = tt;
   tells = Nothing;
   raises = λ line. none_raised (outcome_at place.Between c h v) line h.answers 0 refl;
   claims = λ R. to_no_scan place.Between c h v no_claim_between (λ map. refl) refl (record { no_scan = no_scan_between; fed = λ map e. cc e });

@@ -19,6 +19,9 @@ use Rattle.mmu_core.specs.declared.outcome.Outcome.{Outcome}
 use Rattle.mmu_core.specs.declared.outcome.Outcome.TheVariants.{Goes}
 
 pub record Form : Type 1 where
+  -- whether the place is one of lines with this command, and whether a line begins there
+  pub is_for : Command → Bool
+  pub is_first : Bool
   -- the step of a part; none where the guest touches
   pub part : Command → Held → Option PartStep
   -- 1 where the line may end with it
@@ -47,6 +50,8 @@ pub record Form : Type 1 where
 -- what is said at a place of which its form says nothing
 abbrev pub plain_form : Place → Form
 plain_form p = record {
+  is_for = λ command. false;
+  is_first = false;
   part = λ command h. Some part.Seq;
   note = λ command h. 0;
   outcome = λ command h v. Goes p;

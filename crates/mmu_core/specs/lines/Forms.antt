@@ -62,6 +62,13 @@ form_at (place.HostRun p) = host_run_form p
 form_at (place.Log p) = log_form p
 form_at (place.Split p) = split_form p
 
+-- The place is one of lines with this command; and a line begins there.
+abbrev pub is_for : Place → Command → Bool
+is_for p command = (form_at p).is_for command
+
+abbrev pub is_first : Place → Bool
+is_first p = (form_at p).is_first
+
 -- the step of a part at each place; none where the guest touches
 abbrev pub part_at : Place → Command → Held → Option PartStep
 part_at p command h = (form_at p).part command h

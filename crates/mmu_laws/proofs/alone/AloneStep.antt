@@ -47,7 +47,7 @@ use Rattle.mmu_core.proofs.invariant.QuietKept.{touched}
 use Rattle.mmu_core.proofs.lines.ByStep.{step_needs}
 use Rattle.mmu_core.proofs.lines.ClaimPlaces.{claims_or_not}
 use Rattle.mmu_core.proofs.lines.LineClaims.{Claims, ClaimsNot, KeepsAt, keeps_scan, starves, tries_with_scan}
-use Rattle.mmu_core.proofs.lines.Forms.{outcome_goes, simple_place}
+use Rattle.mmu_core.proofs.lines.Forms.{outcome_goes, outcome_simple}
 use Rattle.mmu_core.proofs.lines.KnowsKept.{access_vcpu}
 use Rattle.mmu_core.proofs.machine.PartStepping.{behind_part}
 use Rattle.mmu_core.proofs.lines.StepIn.{topics_of_step}
@@ -196,7 +196,7 @@ module _ (z : Sizes) (w : World Held) (a : ℕ) (sound : IsSound z w) (others : 
   form_after p command may rests left R K L =
       let v : ℕ = answer_in (task_at p command h) words in
       simple_form (outcome_at p command h v) command (words_after (task_at p command h) words) (behind_part (part_at p command h) h.topics v)
-      (simple_place p command h v tt).goes
+      (outcome_simple p command h v tt)
 
   pub alone_step : (p : Place) (command : Command) → IsUnderWay p → IsCommandFor z h.state.actor command → PartRests h → RetiresPart p h.topics
       → SlotFits p command h → RestsAt p command h → KnowsPart p command h

@@ -1,33 +1,22 @@
 -- Which hands are to begin a log for flat memory: after a step that publishes nothing only those that were so before it, and the manager's alone.
-use Rattle.core_views.specs.declared.answer.Refusal.{Refusal}
-use Rattle.core_views.specs.declared.place.SplitPlace.TheVariants as split
-use Rattle.core_views.specs.declared.place.LogPlace.TheVariants as log
-use Rattle.core_views.specs.LogCommands.{read_refusal, takes_out}
-use Rattle.mmu_core.specs.forms.log.LogSteps.{log_first}
-use Rattle.core_views.specs.declared.trace.Command.TheVariants.{ClearLog, GetLog}
 use Rattle.std.proofs.Common.{◌≡◌, inl, inr, ◌<◌, ◌++◌, [], ℕ, List, refl, sym, subst, ap, ◌∙◌}
-use Rattle.std.specs.Prelude.{Bool, true, false, Option, Some, None}
+use Rattle.std.specs.Prelude.{Bool, true, false}
 use Rattle.core_views.specs.declared.actor.Actor.TheVariants.{Manager}
-use Rattle.core_views.specs.declared.answer.Refusal.{Refusal}
 use Rattle.core_views.specs.declared.event.EventKind.{EventKind}
-use Rattle.core_views.specs.declared.place.AccessPlace.TheVariants as access
-use Rattle.core_views.specs.declared.place.HostPlace.TheVariants as host_at
-use Rattle.core_views.specs.declared.place.HostRunPlace.TheVariants as run_at
 use Rattle.core_views.specs.declared.place.Place.{Place}
 use Rattle.core_views.specs.declared.place.Place.TheVariants as place
 use Rattle.core_views.specs.declared.place.SlotChangePlace.TheVariants as change
 use Rattle.core_views.specs.declared.sizes.Sizes.{Sizes}
 use Rattle.core_views.specs.declared.trace.Command.{Command}
-use Rattle.core_views.specs.declared.trace.Command.TheVariants.{Access, ChangeHost, ChangeRun, Split}
 use Rattle.core_views.specs.declared.trace.Line.{Line}
 use Rattle.core_views.specs.Held.{Held}
 use Rattle.core_views.specs.LogCommands.{is_all_set}
 use Rattle.core_views.specs.Sizes.{actors_of}
-use Rattle.core_views.specs.SlotCommands.{change_at_once, slot_armed}
+use Rattle.core_views.specs.SlotCommands.{slot_armed}
 use Rattle.core_views.specs.SlotSets.{MemorySlots}
 use Rattle.mmu_core.specs.invariant.Invariant.{Invariant, KnowsPart}
-use Rattle.mmu_core.specs.lines.Forms.{first_place, outcome_at, records_at}
-use Rattle.mmu_core.specs.forms.slot_change.SlotChangeSteps.{slot_change_first}
+use Rattle.mmu_core.specs.lines.Forms.{is_first, outcome_at, records_at}
+use Rattle.mmu_core.proofs.lines.Forms.{begins_first}
 use Rattle.mmu_core.specs.lines.Rests.{IsUnderWay}
 use Rattle.mmu_core.specs.machine.Outcomes.{place_after}
 use Rattle.mmu_core.specs.machine.Steps.{beginning, line_at, place_at, task_at}
@@ -44,56 +33,8 @@ use Rattle.mmu_laws.specs.flat.FlatLogs.{IsBeginning}
 use Rattle.mmu_laws.proofs.flat.FlatKept.{told_events, told_kinds}
 use Rattle.mmu_laws.proofs.flat.Told.{told}
 use Rattle.mmu_laws.proofs.flat.LogBeginnings.{BeginsAt, begins_before, may_begin, none_begins}
-use Rattle.mmu_core.specs.forms.log.Readings.{Reading, has_begun, reading_at}
-use Rattle.core_views.specs.declared.place.LogPlace.{LogPlace}
 
 -- ---- where a line stands
-
--- A line begins at the place.
-abbrev pub is_first : Place → Bool
-is_first (place.Access (access.Enter false)) = true
-is_first (place.SlotChange (change.AtOnce refusal)) = true
-is_first (place.SlotChange (change.Claim false)) = true
-is_first (place.Host (host_at.Look moving)) = true
-is_first (place.HostRun run_at.Look) = true
-is_first (place.Log (log.AtOnce refusal)) = true
-is_first (place.Log log.Exclude) = true
-is_first (place.Log (log.Peek false)) = true
-is_first (place.Split split.Begin) = true
-is_first _ = false
-
-first_change : (r : Option (Option Refusal)) → is_first (place.SlotChange (slot_change_first r)) ≡ true
-first_change None = refl
-first_change (Some refusal) = refl
-
-first_log : (r : Option Refusal) (out : Bool) → is_first (place.Log (log_first r out)) ≡ true
-first_log (Some refusal) out = refl
-first_log None true = refl
-first_log None false = refl
-
-begins_first : (z : Sizes) (slots : MemorySlots) (command : Command) → is_first (first_place z slots command) ≡ true
-begins_first z slots (Access gfn word op) = refl
-begins_first z slots (ChangeHost page change) = refl
-begins_first z slots (ChangeRun page change) = refl
-begins_first z slots (GetLog id) = first_log (read_refusal (GetLog id) slots) (takes_out z.mode (GetLog id))
-begins_first z slots (ClearLog id first count words) =
-    first_log (read_refusal (ClearLog id first count words) slots) (takes_out z.mode (ClearLog id first count words))
-begins_first z slots (Split gfn) = refl
-begins_first z slots command = first_change (change_at_once z command slots)
-
--- No line begins at a place of a reading that has begun to read.
-pub begun_later : (p : Place) (command : Command) (h : Held) (r : Reading) → reading_at p command h ≡ Some r → has_begun r.place ≡ true → is_first p ≡ false
-begun_later p command h r is begun = by p is
-  where
-    never : (q : LogPlace) → has_begun q ≡ false → Some (record { place = q; command = command }) ≡ Some r → ⊥
-    never q none e = let same : q ≡ r.place = cc e in let is_so = ap has_begun same in cc (none, is_so, begun)
-
-    by : (p : Place) → reading_at p command h ≡ Some r → is_first p ≡ false
-    by (place.Log (log.AtOnce refusal)) e = absurd (never (log.AtOnce refusal) refl e)
-    by (place.Log log.Exclude) e = absurd (never log.Exclude refl e)
-    by (place.Log (log.Peek false)) e = absurd (never (log.Peek false) refl e)
-    by (place.Log _) e = refl
-    by _ e = absurd (cc e)
 
 -- The hand's line is under way, at the place.
 pub record StandsAt (h : Held) (line : Line) (command : Command) (p : Place) : Type 0 where
@@ -113,18 +54,7 @@ stands_at z v a line command p S later = by (v.hand a).state.place refl S.place_
     by place.Between e is own =
         let first = begins_first h.state.sizes h.slots (line_at place.Between h).command in
         let same : is_first p ≡ true = sym (ap is_first is) ∙ first in absurd (cc (later, same))
-    by (place.Access q) e is own =
-        record { at = e ∙ is; line_is = sym own; command_is = ap (λ (l : Line). l.command) (sym own) ∙ S.command_is }
-    by (place.SlotChange q) e is own =
-        record { at = e ∙ is; line_is = sym own; command_is = ap (λ (l : Line). l.command) (sym own) ∙ S.command_is }
-    by (place.Host q) e is own =
-        record { at = e ∙ is; line_is = sym own; command_is = ap (λ (l : Line). l.command) (sym own) ∙ S.command_is }
-    by (place.HostRun q) e is own =
-        record { at = e ∙ is; line_is = sym own; command_is = ap (λ (l : Line). l.command) (sym own) ∙ S.command_is }
-    by (place.Split q) e is own =
-        record { at = e ∙ is; line_is = sym own; command_is = ap (λ (l : Line). l.command) (sym own) ∙ S.command_is }
-    by (place.Log q) e is own =
-        record { at = e ∙ is; line_is = sym own; command_is = ap (λ (l : Line). l.command) (sym own) ∙ S.command_is }
+    by _ e is own = record { at = e ∙ is; line_is = sym own; command_is = ap (λ (l : Line). l.command) (sym own) ∙ S.command_is }
 
 -- It tells no begin of its line.
 no_begin : (p : Place) (line : Line) → IsUnderWay p → beginning p line ≡ []
@@ -211,12 +141,7 @@ beginning_manager z v j gfn I there B = by h.state.place refl (I.knows j there) 
 
     by : (q : Place) → h.state.place ≡ q → KnowsPart q h.state.line.command h → BeginsAt q h.state.line.command h gfn → h.state.actor ≡ Manager
     by (place.SlotChange p) at K B = change_hand z j h p h.state.line.command (I.lines j there) at refl K.0
-    by (place.Access p) at K B = none_begins h.state.line.command h gfn (place.Access p) refl B
-    by (place.Log p) at K B = none_begins h.state.line.command h gfn (place.Log p) refl B
-    by (place.Host p) at K B = none_begins h.state.line.command h gfn (place.Host p) refl B
-    by (place.HostRun p) at K B = none_begins h.state.line.command h gfn (place.HostRun p) refl B
-    by (place.Split p) at K B = none_begins h.state.line.command h gfn (place.Split p) refl B
-    by place.Between at K B = none_begins h.state.line.command h gfn place.Between refl B
+    by q at K B = none_begins h.state.line.command h gfn q refl B
 
 -- So it is the hand of this manager.
 pub beginning_is : (z : Sizes) (v : View) (a j gfn : ℕ) → Invariant z v → a < actors_of z → (v.hand a).state.actor ≡ Manager → j < actors_of z

@@ -1,47 +1,22 @@
 -- Where a line stands that is to begin a log for flat memory: no step but a publication leads to such a place from another one, and the line is the manager's.
-use Rattle.mmu_core.specs.declared.log_next.LogNext.{LogNext}
-use Rattle.mmu_core.specs.forms.split.SplitSteps.{split_outcome}
-use Rattle.core_views.specs.declared.place.SplitPlace.{SplitPlace}
-use Rattle.core_views.specs.declared.place.SplitPlace.TheVariants as split
-use Rattle.mmu_core.specs.declared.log_next.LogNext.TheVariants as reads_next
-use Rattle.mmu_core.specs.forms.log.LogOutcomes.{after_log}
-use Rattle.mmu_core.specs.forms.log.LogSteps.{log_next, log_reads}
 use Rattle.std.proofs.Common.{◌≡◌, ◌⊎◌, inl, inr, ◌+◌, ℕ, refl, subst, arith}
 use Rattle.std.proofs.lemmas.Bool.Decides.{nat_tests}
-use Rattle.std.specs.Prelude.{List, Bool, true, false, ◌==◌, nat_lt, if◌then◌else◌, is_some, Option, Some, None}
-use Rattle.core_views.specs.declared.answer.Answer.TheVariants.{Done, Refused, Starved}
-use Rattle.core_views.specs.declared.answer.Refusal.TheVariants.{NoFrame, OutOfRange, IsHuge}
-use Rattle.core_views.specs.declared.place.AccessPlace.{AccessPlace}
-use Rattle.core_views.specs.declared.place.AccessPlace.TheVariants as access
+use Rattle.std.specs.Prelude.{Bool, true, false, ◌==◌, nat_lt, if◌then◌else◌, is_some, Option, Some, None}
+use Rattle.core_views.specs.declared.answer.Answer.TheVariants.{Starved}
 use Rattle.core_views.specs.declared.place.BeginPlace.TheVariants as begins
 use Rattle.core_views.specs.declared.place.EndPlace.TheVariants as ends
-use Rattle.core_views.specs.declared.place.FaultEnd.{FaultEnd}
-use Rattle.core_views.specs.declared.place.FaultEnd.TheVariants as end_of
-use Rattle.core_views.specs.declared.place.FaultNext.{FaultNext}
-use Rattle.core_views.specs.declared.place.FaultNext.TheVariants as next_of
-use Rattle.core_views.specs.declared.place.HostPlace.{HostPlace}
-use Rattle.core_views.specs.declared.place.HostPlace.TheVariants as host_at
-use Rattle.core_views.specs.declared.place.HostRunPlace.{HostRunPlace}
-use Rattle.core_views.specs.declared.place.HostRunPlace.TheVariants as run
-use Rattle.core_views.specs.declared.place.Leaving.TheVariants as leaving
 use Rattle.core_views.specs.declared.place.Place.{Place}
 use Rattle.core_views.specs.declared.place.Place.TheVariants as place
 use Rattle.core_views.specs.declared.place.SlotChangePlace.{SlotChangePlace}
 use Rattle.core_views.specs.declared.place.SlotChangePlace.TheVariants as change
 use Rattle.core_views.specs.declared.place.WriteProtectPlace.TheVariants as protect
 use Rattle.core_views.specs.declared.trace.Command.{Command}
-use Rattle.core_views.specs.declared.trace.Command.TheVariants.{Access, ChangeHost, ChangeRun, Split}
-use Rattle.core_views.specs.declared.trace.Op.{Op}
-use Rattle.core_views.specs.declared.trace.RunChange.{RunChange}
 use Rattle.core_views.specs.declared.trace.Slot.{Slot as SlotOf}
 use Rattle.core_views.specs.Held.{Held}
-use Rattle.core_views.specs.HostChanges.{is_own}
-use Rattle.core_views.specs.HostRuns.{owns_run}
 use Rattle.core_views.specs.LogCommands.{is_all_set}
 use Rattle.core_views.specs.SlotCommands.{slot_armed, slot_invalidated}
-use Rattle.core_views.specs.Slots.{contains, is_write}
+use Rattle.core_views.specs.Slots.{contains}
 use Rattle.part_steps.specs.LogHoldings.{log_end}
-use Rattle.part_steps.specs.PageRuns.{one_look}
 use Rattle.part_steps.specs.SetHoldings.{own_open}
 use Rattle.part_steps.specs.PartTasks.{words_filled}
 use Rattle.mmu_core.specs.declared.invalidate.BeginNext.{BeginNext}
@@ -52,19 +27,15 @@ use Rattle.mmu_core.specs.declared.outcome.Outcome.{Outcome}
 use Rattle.mmu_core.specs.declared.outcome.Outcome.TheVariants.{Goes, Ends}
 use Rattle.mmu_core.specs.declared.write_protect.WriteProtectNext.{WriteProtectNext}
 use Rattle.mmu_core.specs.declared.write_protect.WriteProtectNext.TheVariants as protects_next
-use Rattle.mmu_core.specs.forms.access.AccessSteps.{access_outcome, behind_fault, fault_over}
-use Rattle.mmu_core.specs.declared.claim.FreeMap.TheVariants.{Frames, Pages}
+use Rattle.mmu_core.specs.declared.claim.FreeMap.TheVariants.{Pages}
 use Rattle.mmu_core.specs.orders.ClaimSteps.{claim_next}
-use Rattle.mmu_core.specs.forms.access.FaultSteps.{fault_next}
 use Rattle.mmu_core.specs.lines.Forms.{outcome_at}
-use Rattle.mmu_core.specs.forms.host.HostSteps.{host_outcome, moves, after_look, maps_large}
-use Rattle.mmu_core.specs.forms.host_run.HostRunSteps.{host_run_outcome, page_after}
+use Rattle.mmu_core.proofs.lines.Forms.{GoesElsewhere, outcome_elsewhere}
 use Rattle.mmu_core.specs.orders.InvalidateSteps.{begin_next, end_next}
 use Rattle.mmu_core.specs.forms.slot_change.SlotChangeSteps.{after_grace, after_protect, after_set_begin, after_set_end, arm_word, frames_of, log_target}
 use Rattle.mmu_core.specs.forms.slot_change.SlotChangeSteps.{slot_change_outcome, slot_target, watch_next}
 use Rattle.mmu_core.specs.orders.WriteProtectSteps.{protect_next}
 use Rattle.mmu_core.specs.machine.Outcomes.{place_after}
-use Rattle.mmu_core.proofs.forms.host_run.HostRunPlaces.{each_look, each_next_look}
 use Rattle.mmu_core.proofs.lines.EitherPlace.{each_claim, each_watch, either_place, one_place}
 use Rattle.log_invariant.specs.forms.slot_change.LogBegins.{BeginsClean, LogIsUnwatchedAt, begun_at, is_unwatched}
 use Rattle.log_invariant.proofs.StepPlaces.{publishes}
@@ -78,61 +49,6 @@ abbrev pub may_begin : Place → Bool
 may_begin (place.SlotChange (change.WriteProtect range p)) = true
 may_begin (place.SlotChange p) = is_unwatched p
 may_begin _ = false
-
--- ---- a line that changes no slot
-
--- It goes on to no place of a line that does.
-abbrev GoesElsewhere : Outcome → Type 0
-GoesElsewhere (Goes (place.SlotChange p)) = ⊥
-GoesElsewhere _ = Unit {0}
-
-over_elsewhere : (e : FaultEnd) → GoesElsewhere (fault_over e)
-over_elsewhere end_of.Installed = tt
-over_elsewhere (end_of.Fixed marked) = tt
-over_elsewhere (end_of.NotFast word) = tt
-over_elsewhere (end_of.Retry fast cause) = tt
-over_elsewhere _ = tt
-
-fault_elsewhere : (next : FaultNext) → GoesElsewhere (behind_fault next)
-fault_elsewhere (next_of.Goes p) = tt
-fault_elsewhere (next_of.Ends e) = over_elsewhere e
-
-access_elsewhere : (p : AccessPlace) (h : Held) (gfn : ℕ) (op : Op) (x : ℕ) → GoesElsewhere (access_outcome p h gfn op x)
-access_elsewhere (access.Leave (leaving.Reached frame value)) h gfn op x = tt
-access_elsewhere (access.Leave (leaving.Faults fast)) h gfn op x = tt
-access_elsewhere (access.Fault p) h gfn op x = fault_elsewhere (fault_next p h.state.sizes gfn (is_write op) h.topics x)
-access_elsewhere _ h gfn op x = tt
-
-host_elsewhere : (p : HostPlace) (page : ℕ) (h : Held) (x : ℕ) → GoesElsewhere (host_outcome p page h x)
-host_elsewhere (host_at.Look moving) page h x =
-    either_place GoesElsewhere (is_own h.state.sizes h.state.actor page) (after_look moving x) (Ends (Refused OutOfRange))
-    (either_place GoesElsewhere (maps_large x) (Ends (Refused IsHuge))
-    (Goes (place.Host (if moving then host_at.Claim false else host_at.Begin begins.Exclude))) tt tt) tt
-host_elsewhere (host_at.Claim begun) page h x =
-    each_claim GoesElsewhere (claim_next Frames begun h.state.sizes h.topics.frames.claim x) (place.Host (host_at.Claim true))
-    (place.Host (host_at.Begin begins.Exclude)) (Refused NoFrame) tt tt tt
-host_elsewhere (host_at.End ends.Release) page h x =
-    either_place GoesElsewhere (moves h.topics) (Goes (place.Host host_at.Watch)) (Ends Done) tt tt
-host_elsewhere (host_at.End _) page h x = tt
-host_elsewhere _ page h x = tt
-
-run_elsewhere : (p : HostRunPlace) (page : ℕ) (change_ : RunChange) (h : Held) (x : ℕ) → GoesElsewhere (host_run_outcome p page change_ h x)
-run_elsewhere run.Look page change_ h x =
-    either_place GoesElsewhere (owns_run h.state.sizes h.state.actor page change_) _ (Ends (Refused OutOfRange))
-    (each_look GoesElsewhere change_ (record { page = page; word = x }) one_look x tt tt tt tt) tt
-run_elsewhere run.LookOn page change_ h x =
-    each_next_look GoesElsewhere change_ h.topics.host h.topics.row (page_after page change_ h.topics) x tt tt tt tt tt
-run_elsewhere (run.End ends.Release) page change_ h x = tt
-run_elsewhere (run.End _) page change_ h x = tt
-run_elsewhere _ page change_ h x = tt
-
-split_elsewhere : (p : SplitPlace) (h : Held) (x : ℕ) → GoesElsewhere (split_outcome p h.state.sizes h.topics x)
-split_elsewhere (split.End e) h x = tt
-split_elsewhere _ h x = tt
-
-log_elsewhere : (n : LogNext) (words : List ℕ) → GoesElsewhere (after_log n words)
-log_elsewhere (reads_next.Goes p) words = tt
-log_elsewhere _ words = tt
 
 -- ---- where a step leads
 
@@ -223,25 +139,14 @@ module _ (command : Command) (h : Held) (gfn : ℕ) where
 
   elsewhere : {X : Type 0} (o : Outcome) → GoesElsewhere o → At (place_after o) → X
   elsewhere (Ends answer) other B = none_begins place.Between refl B
-  elsewhere (Goes place.Between) other B = none_begins place.Between refl B
-  elsewhere (Goes (place.Access p)) other B = none_begins (place.Access p) refl B
-  elsewhere (Goes (place.Host p)) other B = none_begins (place.Host p) refl B
-  elsewhere (Goes (place.HostRun p)) other B = none_begins (place.HostRun p) refl B
-  elsewhere (Goes (place.Log p)) other B = none_begins (place.Log p) refl B
-  elsewhere (Goes (place.Split p)) other B = none_begins (place.Split p) refl B
   elsewhere (Goes (place.SlotChange p)) other B = absurd other
+  elsewhere (Goes p) other B = none_begins p refl B
 
   -- So where a step leads to such a place that publishes nothing, its own was one.
   pub begins_before : (p : Place) (x : ℕ) → publishes p ≡ false → At (place_after (outcome_at p command h x)) → At p
   begins_before p x never B = by p command refl never B
     where
       by : (p : Place) (c : Command) → c ≡ command → publishes p ≡ false → At (place_after (outcome_at p c h x)) → At p
-      by (place.Access p) (Access at word op) same never B = elsewhere (access_outcome p h at op x) (access_elsewhere p h at op x) B
       by (place.SlotChange p) c same never B =
           change_before p x never (subst (λ d. At (place_after (slot_change_outcome p d h x))) same B)
-      by (place.Host p) (ChangeHost page change_) same never B = elsewhere (host_outcome p page h x) (host_elsewhere p page h x) B
-      by (place.HostRun p) (ChangeRun page change_) same never B = elsewhere (host_run_outcome p page change_ h x) (run_elsewhere p page change_ h x) B
-      by (place.Log p) c same never B =
-          elsewhere (after_log (log_next p c h x) (log_reads p c h x)) (log_elsewhere (log_next p c h x) (log_reads p c h x)) B
-      by (place.Split p) (Split at) same never B = elsewhere (split_outcome p h.state.sizes h.topics x) (split_elsewhere p h x) B
-      by _ _ same never B = B
+      by p c same never B = elsewhere (outcome_at p c h x) (outcome_elsewhere p c h x refl) B

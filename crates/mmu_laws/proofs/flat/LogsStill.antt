@@ -35,7 +35,7 @@ use Rattle.mmu_core.specs.invariant.Invariant.{Invariant}
 use Rattle.mmu_core.specs.invariant.TopicsInvariant.{TopicsInvariant}
 use Rattle.mmu_core.specs.lines.Forms.{part_at}
 use Rattle.part_steps.specs.Tasks.{kind_of_task}
-use Rattle.mmu_core.specs.machine.Steps.{idle_after, task_at}
+use Rattle.mmu_core.specs.machine.Steps.{task_at}
 use Rattle.mmu_core.specs.machine.View.{View, answer_in, part_stepped, stepped, words_after}
 use Rattle.mmu_core.proofs.held.FreshFrames.{behind_it}
 use Rattle.mmu_core.proofs.invariant.Kept.{makes_at}
@@ -50,7 +50,7 @@ use Rattle.mmu_core.proofs.slots.SlotsStay.{is_live_stays, word_stays}
 use Rattle.mmu_core.proofs.words.PartWords.{slots_are, slots_same}
 use Rattle.log_invariant.specs.Covered.{IsLoggedIn, is_marked}
 use Rattle.log_invariant.specs.LogInvariant.{IsMarkingAt, LogInvariant}
-use Rattle.log_invariant.specs.forms.log.LogReads.{HasTakenOut, taken_at}
+use Rattle.log_invariant.specs.forms.log.LogReads.{HasTakenOut}
 use Rattle.log_invariant.proofs.CoveredKept.{PublishesLog, idle_covered_kept, idle_logged_before, logged_before}
 use Rattle.log_invariant.proofs.HeldLogs.{FoundLive, IsLoggedNow, marked_is_live}
 use Rattle.log_invariant.proofs.LogBits.{was_marked, was_there}
@@ -60,7 +60,7 @@ use Rattle.mmu_laws.specs.flat.FlatInvariant.{FlatInvariant, UnderAt}
 use Rattle.mmu_laws.specs.flat.FlatLogs.{FlatLogs, IsArmedIn, IsBeginning, IsCoveredOrTaken, IsDirtyIn}
 use Rattle.mmu_laws.proofs.flat.BeginningsKept.{begins_same, beginning_before}
 use Rattle.mmu_laws.proofs.forms.access.PageFound.{contains_bounds}
-use Rattle.mmu_laws.proofs.forms.log.TakenStays.{cover_stays, ends_taking, taken_stays}
+use Rattle.mmu_laws.proofs.forms.log.TakenStays.{cover_stays, ends_taking, idle_taken, taken_stays}
 
 -- ---- a published slot keeps its log
 
@@ -244,15 +244,16 @@ idle_cover_stays : (z : Sizes) (v : View) (a : ℕ) (step : PartStep) (note : �
     → IsCoveredOrTaken (actors_of z) ((part_stepped a step note v).words area.Log) (part_stepped a step note v).hand slot gfn
 idle_cover_stays z v a step note S free gfn slot (inl is) = inl (idle_covered_kept z v a step note S free gfn slot is)
 idle_cover_stays z v a step note S free gfn slot (inr (j, lt, taken)) =
-    inr (j, lt, at_upd (λ i (g : Held). HasTakenOut (v.hand i) gfn → HasTakenOut g gfn) v.hand a _ (idle_taken (v.hand a).state.place) (λ i apart T. T) j taken)
+    inr (
+      j,
+      lt,
+      at_upd (λ i (g : Held). HasTakenOut (v.hand i) gfn → HasTakenOut g gfn) v.hand a _
+          (idle_taken (v.hand a).state.place (v.hand a).state.line.command (v.hand a) (kind_of_task (v.hand a).state.sizes task) (answer_in task v.words) gfn)
+          (λ i apart T. T) j taken,
+    )
   where
     task : Task
     task = part_task step (own_index (v.hand a)) (v.hand a).topics note
-
-    idle_taken : (q : Place) → (taken_at q (v.hand a).state.line.command (v.hand a)).Has gfn
-        → (taken_at q (v.hand a).state.line.command (idle_after (v.hand a) (kind_of_task (v.hand a).state.sizes task) (answer_in task v.words))).Has gfn
-    idle_taken (place.Log q) T = T
-    idle_taken _ T = absurd T
 
 -- It leaves the logs of flat memory, too.
 pub idle_logs_still : (z : Sizes) (v : View) (a : ℕ) (step : PartStep) (note : ℕ) → IsPart z v a step → needs_line step ≡ false → TopicsInvariant z v

@@ -1,13 +1,6 @@
 -- Events that say nothing of dirty logs: which steps tell no others, and that they leave what flat memory keeps of logs.
-use Rattle.core_views.specs.declared.place.LogPlace.{LogPlace}
-use Rattle.mmu_core.proofs.forms.split.SplitTold.{split_tells_so}
-use Rattle.core_views.specs.declared.place.LogPlace.TheVariants as log
-use Rattle.core_views.specs.declared.trace.Slot.{Slot as SlotOf}
-use Rattle.core_views.specs.LogCommands.{log_read}
-use Rattle.mmu_core.specs.forms.log.LogSteps.{frames_read, read_more, reads_last, slot_asked}
-use Rattle.mmu_core.specs.forms.log.LogTells.{log_tells, shown, taken}
 use Rattle.std.proofs.Common.{◌≡◌, ℕ, List, [], ◌∷◌, ◌++◌}
-use Rattle.std.specs.Prelude.{◌==◌, Bool, true, false, if◌then◌else◌, Option, Some, None}
+use Rattle.std.specs.Prelude.{◌==◌, Bool, true, false, if◌then◌else◌}
 use Rattle.core_views.specs.declared.actor.Actor.{Actor}
 use Rattle.core_views.specs.declared.event.EventKind.{EventKind}
 use Rattle.core_views.specs.declared.event.EventKind.TheVariants.{Accessed, Armed, Begun, BroughtIn, Harvested, HostChanged, LookedAtHost}
@@ -23,7 +16,6 @@ use Rattle.core_views.specs.declared.place.SlotChangePlace.{SlotChangePlace}
 use Rattle.core_views.specs.declared.place.SlotChangePlace.TheVariants as change
 use Rattle.core_views.specs.declared.place.WriteProtectPlace.TheVariants as protect
 use Rattle.core_views.specs.declared.trace.Command.{Command}
-use Rattle.core_views.specs.declared.trace.Command.TheVariants.{Access, ChangeHost, ChangeRun, Split}
 use Rattle.core_views.specs.declared.trace.HostChange.{HostChange}
 use Rattle.core_views.specs.declared.trace.Line.{Line}
 use Rattle.core_views.specs.declared.trace.Op.{Op}
@@ -36,7 +28,6 @@ use Rattle.part_steps.specs.PartTasks.{page_looked, word_looked}
 use Rattle.mmu_core.specs.declared.outcome.Outcome.{Outcome}
 use Rattle.mmu_core.specs.declared.outcome.Outcome.TheVariants.{Goes, Ends}
 use Rattle.mmu_core.specs.forms.access.AccessSteps.{access_tells, exiting, fault_over}
-use Rattle.mmu_core.specs.lines.Forms.{tells_at}
 use Rattle.mmu_core.specs.forms.host.HostSteps.{entry_of, host_outcome, host_tells, word_put, after_look}
 use Rattle.mmu_core.specs.forms.slot_change.SlotChangeSteps.{slot_change_outcome}
 use Rattle.mmu_core.specs.forms.slot_change.SlotChangeTells.{slot_change_tells}
@@ -45,7 +36,6 @@ use Rattle.mmu_core.specs.machine.Steps.{beginning}
 use Rattle.mmu_core.proofs.lines.EitherPlace.{either_place}
 use Rattle.mmu_laws.specs.flat.FlatLogs.{FlatLogsOf}
 use Rattle.mmu_laws.proofs.flat.Told.{told}
-use Rattle.mmu_laws.proofs.forms.host_run.RunEvents.{run_tells_so}
 
 -- The event arms no slot and changes none, makes no frame dirty, and takes nothing out of a log.
 abbrev pub IsQuiet : EventKind → Type 0
@@ -65,12 +55,10 @@ quiet_append (kind ∷ kinds) more are rest = (are.0, quiet_append kinds more ar
 
 -- ---- what a step tells
 
--- A step at such a place may tell an event that isn't quiet: an access, a change of a slot, that a log begins, or what is
--- taken out of it.
+-- A step at such a place may tell an event that isn't quiet: an access, a change of a slot, or that a log begins. (So may one that ends a reading.)
 abbrev pub tells_of_logs : Place → Bool
 tells_of_logs (place.Access Touch) = true
 tells_of_logs (place.SlotChange change.Publish) = true
-tells_of_logs (place.Log log.Await) = true
 tells_of_logs (place.SlotChange (change.WriteProtect range protect.Await)) = true
 tells_of_logs _ = false
 
@@ -82,7 +70,7 @@ look_quiet : (begun : Bool) → AreQuiet (if begun then [] else LookedAtSlots �
 look_quiet true = tt
 look_quiet false = (tt, tt)
 
-access_quiet : (p : AccessPlace) (h : Held) (gfn word : ℕ) (op : Op) (v : ℕ) → tells_of_logs (place.Access p) ≡ false
+pub access_quiet : (p : AccessPlace) (h : Held) (gfn word : ℕ) (op : Op) (v : ℕ) → tells_of_logs (place.Access p) ≡ false
     → AreQuiet (access_tells p h gfn word op v)
 access_quiet (Pause again) h gfn word op v quiet = (tt, tt)
 access_quiet Touch h gfn word op v quiet = absurd (cc quiet)
@@ -94,7 +82,7 @@ access_quiet (Fault fault.Bring) h gfn word op v quiet =
 access_quiet (Fault (fault.End e)) h gfn word op v quiet = exit_quiet (fault_over e)
 access_quiet _ h gfn word op v quiet = tt
 
-change_quiet : (p : SlotChangePlace) (h : Held) (command : Command) (v : ℕ) → tells_of_logs (place.SlotChange p) ≡ false
+pub change_quiet : (p : SlotChangePlace) (h : Held) (command : Command) (v : ℕ) → tells_of_logs (place.SlotChange p) ≡ false
     → AreQuiet (slot_change_tells p h command v)
 change_quiet (change.Claim begun) h command v quiet = exit_quiet (slot_change_outcome (change.Claim begun) command h v)
 change_quiet change.Publish h command v quiet = absurd (cc quiet)
@@ -104,7 +92,7 @@ change_quiet (change.WriteProtect range (protect.Walk false)) h command v quiet 
 change_quiet (change.WriteProtect range _) h command v quiet = tt
 change_quiet _ h command v quiet = tt
 
-host_quiet : (p : HostPlace) (page : ℕ) (change : HostChange) (h : Held) (v : ℕ) → AreQuiet (host_tells p page change h v)
+pub host_quiet : (p : HostPlace) (page : ℕ) (change : HostChange) (h : Held) (v : ℕ) → AreQuiet (host_tells p page change h v)
 host_quiet (host_at.Look moving) page change h v =
     either_place AreQuiet (is_own h.state.sizes h.state.actor page) (LookedAtHost page ∷ exiting (after_look moving v)) []
     (tt, exit_quiet (after_look moving v)) tt
@@ -112,40 +100,6 @@ host_quiet (host_at.Claim begun) page change h v = exit_quiet (host_outcome (hos
 host_quiet host_at.Change page change h v =
     either_place AreQuiet (v == word_looked h.topics.host) (HostChanged page (entry_of (word_put change h.topics)) ∷ []) [] (tt, tt) tt
 host_quiet _ page change h v = tt
-
-taken_quiet : (o : Option ℕ) → AreQuiet (taken o)
-taken_quiet None = tt
-taken_quiet (Some id) = (tt, tt)
-
-shown_quiet : (o : Option ℕ) (frames : List ℕ) → AreQuiet (shown o frames)
-shown_quiet None frames = tt
-shown_quiet (Some id) frames = (tt, tt)
-
-log_quiet : (p : LogPlace) (command : Command) (h : Held) (v : ℕ) → tells_of_logs (place.Log p) ≡ false → AreQuiet (log_tells p command h v)
-log_quiet log.Exclude command h v quiet = either_place AreQuiet (v == 0) (taken (log_read command)) [] (taken_quiet (log_read command)) tt
-log_quiet log.Await command h v quiet = absurd (cc quiet)
-log_quiet (log.Peek begun) command h v quiet =
-    let slot : SlotOf = slot_asked h command in
-    let last : Bool = reads_last begun slot command h.topics in
-    let end : List EventKind = shown (log_read command) (frames_read slot command (read_more begun slot command h v)) in
-    quiet_append (if begun then [] else taken (log_read command)) (if last then end else [])
-    (either_place AreQuiet begun [] (taken (log_read command)) tt (taken_quiet (log_read command)))
-    (either_place AreQuiet last end [] (shown_quiet (log_read command) _) tt)
-log_quiet _ command h v quiet = tt
-
-pub tells_quiet : (p : Place) (command : Command) (h : Held) (v : ℕ) → tells_of_logs p ≡ false → AreQuiet (tells_at p command h v)
-tells_quiet (place.Access p) (Access gfn word op) h v quiet = access_quiet p h gfn word op v quiet
-tells_quiet (place.Access p) _ h v quiet = tt
-tells_quiet (place.SlotChange p) command h v quiet = change_quiet p h command v quiet
-tells_quiet (place.Host p) (ChangeHost page change) h v quiet = host_quiet p page change h v
-tells_quiet (place.Host p) _ h v quiet = tt
-tells_quiet (place.HostRun p) (ChangeRun page change) h v quiet =
-    run_tells_so AreQuiet tt (λ other. (tt, tt)) (λ other refusal no_frame. (tt, (tt, tt))) p (λ at other entry. (tt, tt)) page change h v
-tells_quiet (place.HostRun p) _ h v quiet = tt
-tells_quiet (place.Log p) command h v quiet = log_quiet p command h v quiet
-tells_quiet (place.Split p) (Split gfn) h v quiet = split_tells_so AreQuiet tt (tt, tt) p
-tells_quiet (place.Split p) _ h v quiet = tt
-tells_quiet place.Between command h v quiet = tt
 
 pub begins_quiet : (p : Place) (line : Line) → AreQuiet (beginning p line)
 begins_quiet place.Between line = (tt, tt)

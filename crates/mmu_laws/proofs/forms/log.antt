@@ -30,3 +30,7 @@ pub mod ReadingEvents
 pub mod ExampleReadsRun
 pub mod ExampleOwedRun
 pub mod ExampleManualRun
+pub mod BegunLater
+pub mod LogQuiet
+pub mod NoReadings
+pub mod ReadsNot

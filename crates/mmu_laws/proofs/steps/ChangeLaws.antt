@@ -30,7 +30,8 @@ use Rattle.mmu_laws.specs.steps.InvalidationLaws.{ChangesAreInvalidated, Changes
 use Rattle.part_steps.proofs.PageRuns.{next_on_run}
 use Rattle.mmu_core.proofs.words.RunSpans.{this_next}
 use Rattle.spte_words.proofs.Spans.{spans}
-use Rattle.mmu_laws.proofs.forms.host_run.RunChangers.{next_is_runs, setter_is_host}
+use Rattle.mmu_laws.proofs.EachForm.{next_is_runs}
+use Rattle.mmu_laws.proofs.forms.host_run.RunChangers.{setter_is_host}
 use Rattle.mmu_laws.proofs.causes.MadeSteps.{Makes, in_machine, own_sizes, word_on}
 use Rattle.mmu_laws.proofs.steps.KindLaws.{TakesStep, made, no_touch}
 

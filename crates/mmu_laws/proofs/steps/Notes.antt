@@ -7,7 +7,6 @@ use Rattle.core_views.specs.declared.kind.Kind.{Kind}
 use Rattle.core_views.specs.declared.kind.StepKind.TheVariants as kind
 use Rattle.core_views.specs.declared.place.HostPlace.TheVariants.{Look}
 use Rattle.core_views.specs.declared.place.HostRunPlace.TheVariants as run
-use Rattle.core_views.specs.declared.place.LogPlace.TheVariants.{Await}
 use Rattle.core_views.specs.declared.place.Place.{Place}
 use Rattle.core_views.specs.declared.place.Place.TheVariants as place
 use Rattle.core_views.specs.declared.sizes.Sizes.{Sizes}
@@ -43,7 +42,7 @@ use Rattle.mmu_core.proofs.lines.ClaimPlaces.{claims_or_not}
 use Rattle.mmu_core.proofs.lines.LineClaims.{Claims, ClaimsNot, HasNote, MayEnd, ends_after, note_by, one_claim, IsLook}
 use Rattle.mmu_core.proofs.machine.Which.{is_next}
 use Rattle.mmu_laws.specs.steps.NoteLaws.{AwaitsLast, LoadsLastWord, LooksAtPage, NoteTells, NotesTellEnds, RunLookTells}
-use Rattle.mmu_laws.proofs.forms.log.AwaitNotes.{await_tells, awaits_or_not, awaits_without, may_end_awaits}
+use Rattle.mmu_laws.proofs.forms.log.AwaitNotes.{IsAwait, await_claims_none, awaits_or_not, each_await_tells, may_end_awaits}
 use Rattle.mmu_laws.proofs.steps.StepLaws.{tells_part, tells_touch}
 use Rattle.mmu_laws.proofs.forms.host.LookNotes.{looks_without}
 use Rattle.mmu_laws.proofs.forms.host_run.RunLookNotes.{each_look_tells, look_claims_none, run_look_tells}
@@ -95,7 +94,7 @@ module _ (p : Place) (map : FreeMap) (may_end : ends_with_claim map p ≡ true) 
 
   -- Where it may end with its claim, it awaits nobody.
   awaits_none : (k : Kind) → AwaitsLast p z k → ⊥
-  awaits_none k A = let none = ap (claim_at map) A.at ∙ awaits_without map in cc (none, at)
+  awaits_none k A = let none = await_claims_none p A.at map in cc (none, at)
 
   noted : (step : PartStep) (note : ℕ) → (kind_for step note).note ≡ note
   noted step note = (tells_part step own t note).note_is
@@ -179,7 +178,7 @@ module _ (p : Place) (map : FreeMap) (may_end : ends_with_claim map p ≡ true) 
 -- The line may not end with the load of a last word, nor with the look at the last virtual processor, nor with that at its page.
 record EndsWithNone (p : Place) : Type 0 where
   no_claim : (map : FreeMap) → ends_with_claim map p ≡ true → ⊥
-  no_await : p ≢ place.Log Await
+  no_await : IsAwait p → ⊥
   no_look : IsLook p → ⊥
 
 looks_or_not : (p : Place) → IsLook p ⊎ (IsLook p → ⊥)
@@ -240,12 +239,12 @@ module _ (p : Place) (command : Command) (h : Held) (v : ℕ) (R : RestsAt p com
       tells_exactly p h.state.sizes (part_task (step_of C) (own_index h) h.topics note) outcome v
       ((tells_part (step_of C) (own_index h) h.topics note).note_is ∙ N) (record {
         no_claim = λ map e. let here = subst (λ m. ends_with_claim m p ≡ true) (one_map p C.map map C.begun C.at e) e in cc (never, here);
-        no_await = λ is. let none = ap (claim_at C.map) is ∙ awaits_without C.map in let at = C.at in cc (none, at);
+        no_await = λ is. let none = await_claims_none p is C.map in let at = C.at in cc (none, at);
         no_look = λ look. let none = look_claims_none p look C.map in let at = C.at in cc (none, at);
       })
 
   -- Each other step tells it, but the look at the last virtual processor, and that at a host page.
-  other_tells : ClaimsNot p command h v → p ≢ place.Log Await → (IsLook p → ⊥) → TellsOf (task_at p command h)
+  other_tells : ClaimsNot p command h v → (IsAwait p → ⊥) → (IsLook p → ⊥) → TellsOf (task_at p command h)
   other_tells N apart never = by N.note
     where
       by : (note_by (part_at p command h) note ≡ ends_with outcome) ⊎ MayEnd p command h v ⊎ IsLook p → TellsOf (task_at p command h)
@@ -259,11 +258,10 @@ module _ (p : Place) (command : Command) (h : Held) (v : ℕ) (R : RestsAt p com
       by (inr (inl M)) = absurd (apart (may_end_awaits p command h v R M))
       by (inr (inr look)) = absurd (never look)
 
-line_tells : (p : Place) (command : Command) (h : Held) (v : ℕ) → RestsAt p command h → (p ≡ place.Log Await) ⊎ (p ≢ place.Log Await)
+line_tells : (p : Place) (command : Command) (h : Held) (v : ℕ) → RestsAt p command h → IsAwait p ⊎ (IsAwait p → ⊥)
     → IsLook p ⊎ (IsLook p → ⊥) → Claims p command h v ⊎ ClaimsNot p command h v
     → NoteTells p h.state.sizes (kind_of_task h.state.sizes (task_at p command h)) (outcome_at p command h v) v
-line_tells p command h v R (inl is) looks C =
-    subst (λ q. NoteTells q h.state.sizes (kind_of_task h.state.sizes (task_at q command h)) (outcome_at q command h v) v) (sym is) (await_tells command h v)
+line_tells p command h v R (inl is) looks C = each_await_tells p is command h v
 line_tells p command h v R (inr apart) (inl look) C = each_look_tells p look command h v R
 line_tells p command h v R (inr apart) (inr never) (inl C) =
     subst (λ (s : Option PartStep). NoteTells p h.state.sizes (kind_of_task h.state.sizes (task_by s h (note_at p command h) (touch_at command h)))

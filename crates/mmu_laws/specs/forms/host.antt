@@ -1,1 +1,2 @@
 pub mod HostStages
+pub mod HostNotes

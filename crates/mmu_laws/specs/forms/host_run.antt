@@ -1,1 +1,2 @@
 pub mod HostRunStages
+pub mod HostRunNotes

@@ -5,3 +5,4 @@ pub mod ReadingsAlone
 pub mod ExampleReads
 pub mod ExampleOwed
 pub mod ExampleManual
+pub mod LogNotes

@@ -1,13 +1,8 @@
 -- What the notes of steps tell of the ends of their lines.
-use Rattle.std.specs.Prelude.{◌≡◌, ◌≤◌, ◌+◌, ◌⊎◌, ℕ, Bool, true, ◌==◌, ◌&&◌, ◌||◌, not, nat_lt, if◌then◌else◌, Option, None, Some, is_some}
+use Rattle.std.specs.Prelude.{◌≡◌, ◌+◌, ◌⊎◌, ℕ, Bool, true, ◌==◌, ◌&&◌, ◌||◌, not, nat_lt, if◌then◌else◌, Option, None, Some, is_some}
 use Rattle.core_views.specs.declared.kind.Kind.{Kind}
 use Rattle.core_views.specs.declared.kind.StepKind.TheVariants as kind
-use Rattle.core_views.specs.declared.place.HostPlace.TheVariants.{Look}
-use Rattle.core_views.specs.declared.place.HostRunPlace.{HostRunPlace}
-use Rattle.core_views.specs.declared.place.HostRunPlace.TheVariants as run
-use Rattle.core_views.specs.declared.place.LogPlace.TheVariants.{Await}
 use Rattle.core_views.specs.declared.place.Place.{Place}
-use Rattle.core_views.specs.declared.place.Place.TheVariants as place_of
 use Rattle.core_views.specs.declared.sizes.Sizes.{Sizes}
 use Rattle.core_views.specs.declared.topics.HostLook.{HostLook}
 use Rattle.core_views.specs.declared.topics.HostRow.{HostRow}
@@ -18,7 +13,6 @@ use Rattle.core_views.specs.declared.trace.RunChange.TheVariants.{Small}
 use Rattle.core_views.specs.Held.{Held}
 use Rattle.core_views.specs.HostRuns.{run_count}
 use Rattle.core_views.specs.Kinds.{kind_named}
-use Rattle.spte_words.specs.declared.area.Area.TheVariants as area
 use Rattle.spte_words.specs.Areas.{place}
 use Rattle.core_views.specs.Host.{is_huge}
 use Rattle.mmu_core.specs.forms.host.HostSteps.{entry_of}
@@ -34,6 +28,9 @@ use Rattle.part_steps.specs.ControlBits.{has_to_flush}
 use Rattle.part_steps.specs.Tasks.{map_of}
 use Rattle.part_steps.specs.TopicSteps.{topics_after}
 use Rattle.mmu_core.specs.machine.Turns.{line_of, outcome_of}
+pub use Rattle.mmu_laws.specs.forms.host.HostNotes.{LooksAtPage}
+pub use Rattle.mmu_laws.specs.forms.host_run.HostRunNotes.{LooksInRun}
+pub use Rattle.mmu_laws.specs.forms.log.LogNotes.{AwaitsLast}
 
 -- The step of this place loads the last word of the map of what is free, for a claim with which its line may end.
 pub record LoadsLastWord (p : Place) (z : Sizes) (k : Kind) : Type 0 where
@@ -41,25 +38,6 @@ pub record LoadsLastWord (p : Place) (z : Sizes) (k : Kind) : Type 0 where
   pub ends : ends_with_claim map p ≡ true
   pub loads : kind_named k.code ≡ kind.Control
   pub last : k.word + 1 ≡ place (map_of z) (map_area map) (map_words map z)
-
--- The step of this place looks at the last virtual processor, for a line that takes pages out of a dirty log and awaits the flush of each.
-pub record AwaitsLast (p : Place) (z : Sizes) (k : Kind) : Type 0 where
-  pub at : p ≡ place_of.Log Await
-  pub awaits : kind_named k.code ≡ kind.Await
-  pub last : place (map_of z) area.State z.vcpus ≤ k.word + 1
-
--- The step of this place looks at a host page, which the line is to change.
-pub record LooksAtPage (p : Place) (k : Kind) : Type 0 where
-  pub moves : Bool
-  pub at : p ≡ place_of.Host (Look moves)
-  pub looks : kind_named k.code ≡ kind.Host
-
--- The step of this place looks at a host page of the run that the line is to change.
-pub record LooksInRun (p : Place) (k : Kind) : Type 0 where
-  pub look : HostRunPlace
-  pub at : p ≡ place_of.HostRun look
-  pub is : (look ≡ run.Look) ⊎ (look ≡ run.LookOn)
-  pub looks : kind_named k.code ≡ kind.Host
 
 -- The note of a step that found v is 1 where its line is answered with it, and 0 where the line goes on. But that of the load of the last
 -- word of a map is 1, and the line is answered with this load exactly where it found 0; that of the look at the last virtual processor is 1, and the line

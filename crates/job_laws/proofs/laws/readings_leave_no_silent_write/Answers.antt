@@ -1,4 +1,4 @@
-use Rattle.job_laws.proofs.ReadOut.{after_readings_writes_are_told, readings_have_flushes}
+use Rattle.job_laws.proofs.forms.log.ReadOut.{after_readings_writes_are_told, readings_have_flushes}
 use Rattle.job_laws.proofs.laws.readings_leave_no_silent_write.Goals as goal
 
 pub returns-clause-flushes : goal.returns-clause-flushes

@@ -1,5 +1,5 @@
 -- How an access ends: the step that ends it doesn't wait, and an exit for want of a page is told only where the line is answered so.
-use Rattle.std.proofs.Common.{◌≡◌, ◌≢◌, ℕ, List, [], ◌∷◌, ap, refl}
+use Rattle.std.proofs.Common.{◌≡◌, ◌≢◌, ℕ, List, [], ◌∷◌, ap, arith, refl}
 use Rattle.std.specs.Prelude.{Bool, true, false, ◌==◌, if◌then◌else◌}
 use Rattle.core_views.specs.declared.answer.Answer.{Answer}
 use Rattle.core_views.specs.declared.answer.Answer.TheVariants.{Starved}
@@ -28,9 +28,10 @@ use Rattle.core_views.specs.declared.place.Leaving.TheVariants as leaving
 use Rattle.core_views.specs.declared.place.Place.TheVariants as place
 use Rattle.core_views.specs.declared.trace.Command.{Command}
 use Rattle.core_views.specs.declared.trace.Command.TheVariants.{Access}
+use Rattle.mmu_core.proofs.forms.access.AccessLeft.{access_few, some_access_left}
 use Rattle.mmu_core.proofs.lines.FormLaws.{FormLaws}
 use Rattle.mmu_core.proofs.lines.SimplePlaces.{Nothing, OfAccess}
-use Rattle.mmu_core.proofs.machine.GoesOn.{GoesUnderWay}
+use Rattle.mmu_core.proofs.machine.GoesOn.{GoesUnderWay, GoesWithin}
 
 -- ---- it doesn't wait
 
@@ -79,44 +80,56 @@ access_fed _ h gfn word op v other = tt
 
 -- ---- where it goes on to
 
-fault_over_goes : (e : FaultEnd) → GoesUnderWay (fault_over e)
-fault_over_goes end_of.Installed = tt
-fault_over_goes _ = tt
+abbrev GoesOn : Outcome → Type 0
+GoesOn o = GoesUnderWay o × GoesWithin (place.Access Touch) o
 
-fault_goes : (n : FaultNext) → GoesUnderWay (behind_fault n)
-fault_goes (next_of.Goes p) = tt
+fault_over_goes : (e : FaultEnd) → GoesOn (fault_over e)
+fault_over_goes end_of.Installed = (tt, λ c. refl)
+fault_over_goes (end_of.Fixed marked) = (tt, λ c. refl)
+fault_over_goes (end_of.NotFast word) = (tt, λ c. refl)
+fault_over_goes (end_of.Retry fast cause) = (tt, λ c. refl)
+fault_over_goes _ = (tt, tt)
+
+fault_goes : (n : FaultNext) → GoesOn (behind_fault n)
+fault_goes (next_of.Goes p) = (tt, λ c. refl)
 fault_goes (next_of.Ends e) = fault_over_goes e
 
-access_goes : (p : AccessPlace) (h : Held) (gfn : ℕ) (op : Op) (v : ℕ) → GoesUnderWay (access_outcome p h gfn op v)
-access_goes (Leave (leaving.Reached frame value)) h gfn op v = tt
-access_goes (Leave (leaving.Faults fast)) h gfn op v = tt
+access_goes : (p : AccessPlace) (h : Held) (gfn : ℕ) (op : Op) (v : ℕ) → GoesOn (access_outcome p h gfn op v)
+access_goes (Leave (leaving.Reached frame value)) h gfn op v = (tt, tt)
+access_goes (Leave (leaving.Faults fast)) h gfn op v = (tt, λ c. refl)
 access_goes (Fault p) h gfn op v = fault_goes (fault_next p h.state.sizes gfn (is_write op) h.topics v)
-access_goes _ h gfn op v = tt
+access_goes _ h gfn op v = (tt, λ c. refl)
 
 pub access_laws : (p : AccessPlace) (c : Command) → FormLaws (place.Access p) c
 access_laws p (Access gfn word op) = record {
-  goes = λ h v begun. access_goes p h gfn op v;
-  apart = λ h v other. absurd other;
+  goes = λ h v begun. (access_goes p h gfn op v).0;
+  within = λ h v. (access_goes p h gfn op v).1;
+  knows_for = λ h begun K. refl;
+  rests_for = λ h begun R. refl;
   simple = λ h v is. absurd is;
   rests = λ h other. absurd other;
   knows_prop = λ h other. absurd other;
-  no_access = λ h other begun is K. absurd other;
   stays = λ z before set after other h own e. tt;
   accepts = λ z pool set h e. tt;
   accepts_prop = λ z slots. hlevel props;
   free = λ h v answer R e. access_free p h gfn op v answer e;
   told = λ h v. OfAccess p gfn word op;
+  few = λ z pool set h holds K S most. let few = access_few p h.state.sizes h.topics most in let pool = S.pool.1 in omega (arith, few, pool);
+  some = λ z t begun. some_access_left p z t;
 }
 access_laws p _ = record {
   goes = λ h v begun. tt;
-  apart = λ h v other. absurd other;
+  within = λ h v command. refl;
+  knows_for = λ h begun K. absurd K;
+  rests_for = λ h begun R. absurd R;
   simple = λ h v is. absurd is;
   rests = λ h other. absurd other;
   knows_prop = λ h other. absurd other;
-  no_access = λ h other begun is K. absurd other;
   stays = λ z before set after other h own e. absurd e;
   accepts = λ z pool set h e. tt;
   accepts_prop = λ z slots. hlevel props;
   free = λ h v answer R e. absurd R;
   told = λ h v. Nothing;
+  few = λ z pool set h holds K S most. absurd K;
+  some = λ z t begun. some_access_left p z t;
 }

@@ -25,6 +25,7 @@ use Rattle.part_steps.specs.declared.invalidations.Target.TheVariants as aim
 use Rattle.part_steps.specs.declared.part_step.PartStep.TheVariants as part
 use Rattle.part_steps.specs.SweepTopics.{has_entry, swept_to}
 use Rattle.spte_words.specs.HostWords.{host_present}
+use Rattle.mmu_core.specs.declared.outcome.Outcome.{Outcome}
 use Rattle.mmu_core.specs.declared.outcome.Outcome.TheVariants.{Goes, Ends}
 use Rattle.mmu_core.specs.forms.access.FaultLeft.{find_left}
 use Rattle.mmu_core.specs.forms.host.HostKnows.{HostKnows, HostRests}
@@ -43,7 +44,7 @@ use Rattle.core_views.specs.declared.place.EndPlace.{EndPlace}
 use Rattle.mmu_core.proofs.orders.ClaimMade.{claim_free, claim_made}
 use Rattle.mmu_core.proofs.lines.EitherPlace.{each_claim, either_place}
 use Rattle.mmu_core.proofs.lines.PartsWait.{neither_waits}
-use Rattle.mmu_core.proofs.machine.GoesOn.{GoesToNoAccess, GoesUnderWay}
+use Rattle.mmu_core.proofs.machine.GoesOn.{GoesUnderWay, GoesWithin}
 use Rattle.core_views.specs.declared.trace.Command.{Command}
 use Rattle.core_views.specs.declared.trace.Command.TheVariants.{ChangeHost}
 use Rattle.mmu_core.proofs.lines.FormLaws.{FormLaws}
@@ -52,18 +53,21 @@ use Rattle.mmu_core.specs.forms.host.HostSteps.{after_look, maps_large}
 
 -- ---- where it goes on to
 
-pub host_goes : (p : HostPlace) (page : ℕ) (h : Held) (v : ℕ) → GoesUnderWay (host_outcome p page h v) × GoesToNoAccess (host_outcome p page h v)
+abbrev GoesOn : Outcome → Type 0
+GoesOn o = GoesUnderWay o × GoesWithin (place.Host Watch) o
+
+host_goes : (p : HostPlace) (page : ℕ) (h : Held) (v : ℕ) → GoesOn (host_outcome p page h v)
 host_goes (Look moving) page h v =
-    either_place (λ o. GoesUnderWay o × GoesToNoAccess o) (is_own h.state.sizes h.state.actor page) (after_look moving v) (Ends (Refused OutOfRange))
-    (either_place (λ o. GoesUnderWay o × GoesToNoAccess o) (maps_large v) (Ends (Refused IsHuge))
-    (Goes (place.Host (if moving then Claim false else Begin begins.Exclude))) (tt, tt) (tt, tt)) (tt, tt)
+    either_place GoesOn (is_own h.state.sizes h.state.actor page) (after_look moving v) (Ends (Refused OutOfRange))
+    (either_place GoesOn (maps_large v) (Ends (Refused IsHuge)) (Goes (place.Host (if moving then Claim false else Begin begins.Exclude)))
+    (tt, tt) (tt, λ c. refl)) (tt, tt)
 host_goes (Claim begun) page h v =
-    each_claim (λ o. GoesUnderWay o × GoesToNoAccess o) (claim_next Frames begun h.state.sizes h.topics.frames.claim v) (place.Host (Claim true))
-    (place.Host (Begin begins.Exclude)) (Refused NoFrame) (tt, tt) (tt, tt) (tt, tt)
-host_goes (End ends.Release) page h v =
-    either_place (λ o. GoesUnderWay o × GoesToNoAccess o) (moves h.topics) (Goes (place.Host Watch)) (Ends Done) (tt, tt) (tt, tt)
-host_goes (End _) page h v = (tt, tt)
-host_goes _ page h v = (tt, tt)
+    each_claim GoesOn (claim_next Frames begun h.state.sizes h.topics.frames.claim v) (place.Host (Claim true)) (place.Host (Begin begins.Exclude))
+    (Refused NoFrame) (tt, λ c. refl) (tt, λ c. refl) (tt, tt)
+host_goes (End ends.Release) page h v = either_place GoesOn (moves h.topics) (Goes (place.Host Watch)) (Ends Done) (tt, λ c. refl) (tt, tt)
+host_goes (End _) page h v = (tt, λ c. refl)
+host_goes Free page h v = (tt, tt)
+host_goes _ page h v = (tt, λ c. refl)
 
 -- ---- how many steps it has left
 
@@ -210,7 +214,9 @@ host_rests_prop _ h = hlevel props
 pub host_laws : (p : HostPlace) (c : Command) → FormLaws (place.Host p) c
 host_laws p (ChangeHost page change) = record {
   goes = λ h v begun. (host_goes p page h v).0;
-  apart = λ h v other. (host_goes p page h v).1;
+  within = λ h v. (host_goes p page h v).1;
+  knows_for = λ h begun K. refl;
+  rests_for = λ h begun R. refl;
   simple = λ h v is. absurd is;
   rests = λ h other. inr (record {
     step = host_part p page change h;
@@ -221,23 +227,28 @@ host_laws p (ChangeHost page change) = record {
     rests = λ N M. (N, M);
   });
   knows_prop = λ h other. host_knows_prop p page change h;
-  no_access = λ h other begun is K. absurd is;
   stays = λ z before set after other h own e. tt;
   accepts = λ z pool set h e. tt;
   accepts_prop = λ z slots. hlevel props;
   free = λ h v answer R e. host_free p page change h v answer R.1 e;
   told = λ h v. OfHost p page change;
+  few = λ z pool set h holds K S most.
+      let few = host_few p h.state.sizes page change h most K in let actors = S.actors in let words = S.words.1 in omega (arith, few, actors, words);
+  some = λ z t begun. some_host_left p z t;
 }
 host_laws p _ = record {
   goes = λ h v begun. tt;
-  apart = λ h v other. tt;
+  within = λ h v command. refl;
+  knows_for = λ h begun K. absurd K;
+  rests_for = λ h begun R. absurd R;
   simple = λ h v is. absurd is;
   rests = λ h other. inl (λ R. absurd R);
   knows_prop = λ h other. hlevel props;
-  no_access = λ h other begun is K. absurd K;
   stays = λ z before set after other h own e. absurd e;
   accepts = λ z pool set h e. tt;
   accepts_prop = λ z slots. hlevel props;
   free = λ h v answer R e. absurd R;
   told = λ h v. Nothing;
+  few = λ z pool set h holds K S most. absurd K;
+  some = λ z t begun. some_host_left p z t;
 }

@@ -42,7 +42,7 @@ use Rattle.mmu_core.proofs.forms.access.AccessEnds.{AreFed}
 use Rattle.mmu_core.proofs.forms.host_run.RunTargets.{each_target}
 use Rattle.mmu_core.proofs.lines.EitherPlace.{either_place}
 use Rattle.mmu_core.proofs.lines.PartsWait.{neither_waits}
-use Rattle.mmu_core.proofs.machine.GoesOn.{GoesToSimple, GoesUnderWay}
+use Rattle.mmu_core.proofs.machine.GoesOn.{GoesUnderWay, GoesWithin}
 use Rattle.mmu_core.proofs.orders.InvalidatePlaces.{begin_few, end_few}
 
 -- ---- where it goes on to
@@ -76,17 +76,17 @@ each_change P t v on over =
     by (Some run) = either_place P (nat_lt (run.changed + 1) (level_span run.level)) Change (End ends.Exclude) on over
 
 abbrev GoesOn : Outcome → Type 0
-GoesOn o = GoesUnderWay o × GoesToSimple o
+GoesOn o = GoesUnderWay o × GoesWithin (place.HostRun Look) o
 
 pub host_run_goes : (p : HostRunPlace) (page : ℕ) (change : RunChange) (h : Held) (v : ℕ) → GoesOn (host_run_outcome p page change h v)
 host_run_goes Look page change h v =
     either_place GoesOn (owns_run h.state.sizes h.state.actor page change) _ (Ends (Refused OutOfRange))
-    (each_look GoesOn change (record { page = page; word = v }) one_look v (tt, tt) (tt, tt) (tt, tt) (tt, tt)) (tt, tt)
+    (each_look GoesOn change (record { page = page; word = v }) one_look v (tt, tt) (tt, λ c. refl) (tt, λ c. refl) (tt, tt)) (tt, tt)
 host_run_goes LookOn page change h v =
-    each_next_look GoesOn change h.topics.host h.topics.row (page_after page change h.topics) v (tt, tt) (tt, tt) (tt, tt) (tt, tt) (tt, tt)
+    each_next_look GoesOn change h.topics.host h.topics.row (page_after page change h.topics) v (tt, tt) (tt, tt) (tt, λ c. refl) (tt, λ c. refl) (tt, tt)
 host_run_goes (End ends.Release) page change h v = (tt, tt)
-host_run_goes (End _) page change h v = (tt, tt)
-host_run_goes _ page change h v = (tt, tt)
+host_run_goes (End _) page change h v = (tt, λ c. refl)
+host_run_goes _ page change h v = (tt, λ c. refl)
 
 -- ---- how many steps it has left
 

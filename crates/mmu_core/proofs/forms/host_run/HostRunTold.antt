@@ -29,14 +29,13 @@ use Rattle.mmu_core.specs.lines.ScanPlaces.{HasScan, answer_without, claim_at}
 use Rattle.mmu_core.specs.orders.ClaimSteps.{FreeMap, Pages, Frames}
 use Rattle.mmu_core.specs.orders.InvalidateSteps.{begin_next, end_next}
 use Rattle.mmu_core.proofs.forms.access.FaultScans.{maps}
-use Rattle.mmu_core.proofs.forms.host_run.HostRunPlaces.{each_look, each_next_look, host_run_free, host_run_goes, host_run_knows_prop}
-use Rattle.mmu_core.proofs.forms.host_run.HostRunPlaces.{host_run_rests_prop}
+use Rattle.mmu_core.proofs.forms.host_run.HostRunPlaces.{each_look, each_next_look, host_run_few, host_run_free, host_run_goes, host_run_knows_prop}
+use Rattle.mmu_core.proofs.forms.host_run.HostRunPlaces.{host_run_rests_prop, some_host_run_left}
 use Rattle.mmu_core.proofs.lines.EitherPlace.{each_map, either_place}
 use Rattle.mmu_core.proofs.lines.FormLaws.{FormLaws}
 use Rattle.mmu_core.proofs.lines.LineClaims.{HasNoScan, IsLook, is_answered, to_no_scan_noted}
 use Rattle.mmu_core.proofs.lines.LinesKept.{answers_length}
 use Rattle.mmu_core.proofs.lines.SimplePlaces.{Nothing, OfHostRun, RaisesOn, SimplePlace, none_raised}
-use Rattle.mmu_core.proofs.machine.GoesOn.{simple_is_no_access}
 use Rattle.mmu_core.proofs.machine.PartStepping.{rises}
 use Rattle.mmu_core.proofs.orders.InvalidatePlaces.{begin_plain, begin_rises, end_plain}
 
@@ -118,7 +117,6 @@ run_raises (End ends.Release) page change h v line =
 
 host_run_simple : (p : HostRunPlace) (page : ℕ) (change : RunChange) (h : Held) (v : ℕ) → SimplePlace (place.HostRun p) (ChangeRun page change) h v
 host_run_simple p page change h v = record {
-  goes = (host_run_goes p page change h v).1;
   tells = OfHostRun p page change;
   raises = run_raises p page change h v;
   claims = λ R.
@@ -129,7 +127,9 @@ host_run_simple p page change h v = record {
 pub host_run_laws : (p : HostRunPlace) (c : Command) → FormLaws (place.HostRun p) c
 host_run_laws p (ChangeRun page change) = record {
   goes = λ h v begun. (host_run_goes p page change h v).0;
-  apart = λ h v other. simple_is_no_access (host_run_outcome p page change h v) (host_run_goes p page change h v).1;
+  within = λ h v. (host_run_goes p page change h v).1;
+  knows_for = λ h begun K. refl;
+  rests_for = λ h begun R. refl;
   simple = λ h v is. host_run_simple p page change h v;
   rests = λ h other. inr (record {
     step = host_run_part p page change h;
@@ -140,24 +140,29 @@ host_run_laws p (ChangeRun page change) = record {
     rests = λ N M. (N, M);
   });
   knows_prop = λ h other. host_run_knows_prop p page change h;
-  no_access = λ h other begun is K. absurd is;
   stays = λ z before set after other h own e. tt;
   accepts = λ z pool set h e. tt;
   accepts_prop = λ z slots. hlevel props;
   free = λ h v answer R e. host_run_free p page change h v answer R.1 e;
   told = λ h v. OfHostRun p page change;
+  few = λ z pool set h holds K S most.
+      let few = host_run_few p h.state.sizes page change h most K in let actors = S.actors in omega (arith, few, actors);
+  some = λ z t begun. some_host_run_left p z t;
 }
 host_run_laws p _ = record {
   goes = λ h v begun. tt;
-  apart = λ h v other. tt;
+  within = λ h v command. refl;
+  knows_for = λ h begun K. absurd K;
+  rests_for = λ h begun R. absurd R;
   simple = λ h v is.
-      record { goes = tt; tells = Nothing; raises = λ line. omega arith; claims = λ R. absurd R };
+      record { tells = Nothing; raises = λ line. omega arith; claims = λ R. absurd R };
   rests = λ h other. inl (λ R. absurd R);
   knows_prop = λ h other. hlevel props;
-  no_access = λ h other begun is K. absurd K;
   stays = λ z before set after other h own e. absurd e;
   accepts = λ z pool set h e. tt;
   accepts_prop = λ z slots. hlevel props;
   free = λ h v answer R e. absurd R;
   told = λ h v. Nothing;
+  few = λ z pool set h holds K S most. absurd K;
+  some = λ z t begun. some_host_run_left p z t;
 }

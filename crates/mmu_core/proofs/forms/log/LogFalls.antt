@@ -1,7 +1,7 @@
 -- Each step of a line that reads a dirty log, and doesn't wait for another actor, leaves it fewer steps.
 use Rattle.std.proofs.lemmas.Option.{same_Some}
 use Rattle.std.proofs.Common.{◌≡◌, ◌+◌, ◌-◌, ◌*◌, ◌<◌, ◌≤◌, ℕ, zero, suc, Bool, true, false, cond, refl, subst, sym, ap, ◌∙◌, arith, List}
-use Rattle.std.specs.Prelude.{◌==◌, ◌||◌, not, nat_lt, find, if◌then◌else◌, Option, Some, None}
+use Rattle.std.specs.Prelude.{◌==◌, ◌||◌, not, nat_lt, find, if◌then◌else◌, is_some, Option, Some, None}
 use Rattle.std.specs.List.{range_with_len}
 use Rattle.core_views.specs.declared.place.LogPlace.{LogPlace}
 use Rattle.core_views.specs.declared.place.LogPlace.TheVariants.{AtOnce, Exclude, Take, Root, Walk, Protect, Release, Ask, Await, Peek}
@@ -9,9 +9,12 @@ use Rattle.core_views.specs.declared.sizes.Sizes.{Sizes}
 use Rattle.core_views.specs.declared.topics.TableWalk.{TableWalk}
 use Rattle.core_views.specs.declared.topics.Topics.{Topics}
 use Rattle.core_views.specs.declared.trace.Command.{Command}
+use Rattle.core_views.specs.declared.trace.Command.TheVariants.{ClearLog, GetLog}
+use Rattle.core_views.specs.Sizes.{AreSizes}
+use Rattle.mmu_core.specs.lines.Bounds.{most_steps}
 use Rattle.core_views.specs.declared.trace.Slot.{Slot}
 use Rattle.core_views.specs.Held.{Held}
-use Rattle.core_views.specs.LogCommands.{count_asked, has_bit, words_asked}
+use Rattle.core_views.specs.LogCommands.{count_asked, has_bit, log_read, words_asked}
 use Rattle.core_views.proofs.Ranges.{found_passes}
 use Rattle.spte_words.specs.declared.spte_kind.SpteKind.{SpteKind}
 use Rattle.spte_words.specs.declared.spte_kind.SpteKind.TheVariants as entry_kind
@@ -212,6 +215,15 @@ log_few (Take false) z t most = omega arith
 log_few (Peek true) z t most = omega arith
 log_few (Peek false) z t most = omega arith
 log_few _ z t most = omega arith
+
+-- So its command allows.
+pub log_allowed : (p : LogPlace) (c : Command) (h : Held) → is_some (log_read c) ≡ true → AreSizes h.state.sizes → h.topics.walk.level ≤ 4
+    → log_left p h.state.sizes h.topics ≤ most_steps h.state.sizes c
+log_allowed p (GetLog id) h reads S most =
+    let few = log_few p h.state.sizes h.topics most in let actors = S.actors in omega (arith, few, actors)
+log_allowed p (ClearLog id first count words) h reads S most =
+    let few = log_few p h.state.sizes h.topics most in let actors = S.actors in omega (arith, few, actors)
+log_allowed p _ h reads S most = absurd (cc reads)
 
 -- At each place it has one.
 pub some_log_left : (p : LogPlace) (z : Sizes) (t : Topics) → 0 < log_left p z t

@@ -10,6 +10,7 @@ use Rattle.core_views.specs.Held.{Held}
 use Rattle.core_views.specs.LogCommands.{log_read, read_refusal, takes_out, words_asked}
 use Rattle.core_views.specs.SlotSets.{MemorySlots, slot_of_id}
 use Rattle.part_steps.specs.PartSteps.{IsAtRest}
+use Rattle.mmu_core.specs.forms.log.LogForm.{log_is_first}
 use Rattle.mmu_core.specs.forms.log.LogKnows.{LogKnows, Reads}
 use Rattle.mmu_core.specs.forms.log.LogSteps.{log_first, slot_asked}
 use Rattle.mmu_core.specs.forms.slot_change.SlotTargets.{slot_or_none}
@@ -49,3 +50,9 @@ log_first_known command h reads R some = by (read_refusal command h.slots) (take
         asked = λ begun. absurd (cc begun);
       },
     )
+
+-- A line begins at its first place.
+pub log_begins : (r : Option Refusal) (out : Bool) → log_is_first (log_first r out) ≡ true
+log_begins (Some refusal) out = refl
+log_begins None true = refl
+log_begins None false = refl

@@ -10,7 +10,7 @@ use Rattle.core_views.specs.declared.place.LogPlace.{LogPlace}
 use Rattle.core_views.specs.declared.place.LogPlace.TheVariants.{AtOnce, Exclude, Take, Root, Walk, Protect, Release, Ask, Await, Peek}
 use Rattle.core_views.specs.declared.place.Place.TheVariants as place
 use Rattle.core_views.specs.declared.trace.Command.{Command}
-use Rattle.core_views.specs.declared.trace.Command.TheVariants.{ClearLog, GetLog, Access}
+use Rattle.core_views.specs.declared.trace.Command.TheVariants.{ClearLog, GetLog}
 use Rattle.core_views.specs.Held.{Held}
 use Rattle.core_views.specs.LogCommands.{is_bad_range, log_read, read_refusal}
 use Rattle.core_views.specs.Refusals.{is_logged}
@@ -23,7 +23,7 @@ use Rattle.mmu_core.specs.declared.outcome.Outcome.TheVariants.{Ends}
 use Rattle.mmu_core.specs.forms.access.AccessSteps.{ends_with}
 use Rattle.mmu_core.specs.orders.ClaimSteps.{FreeMap, Frames, Pages}
 use Rattle.mmu_core.specs.lines.Delays.{line_waits}
-use Rattle.mmu_core.specs.lines.Forms.{RestsAt, outcome_at}
+use Rattle.mmu_core.specs.lines.Forms.{RestsAt}
 use Rattle.mmu_core.specs.forms.log.LogKnows.{LogKnows, LogRests}
 use Rattle.mmu_core.specs.forms.log.LogOutcomes.{after_log}
 use Rattle.mmu_core.specs.forms.log.LogSteps.{awaits_last, log_next, log_note, log_reads, reads_last, slot_asked, log_part}
@@ -33,10 +33,11 @@ use Rattle.mmu_core.specs.machine.Outcomes.{place_after}
 use Rattle.mmu_core.proofs.forms.access.AccessEnds.{AreFed}
 use Rattle.mmu_core.proofs.lines.EitherPlace.{either_place}
 use Rattle.mmu_core.proofs.lines.LineClaims.{Claims, ClaimsNot, MayEnd, no_scan_between, IsLook}
+use Rattle.mmu_core.proofs.forms.log.LogFalls.{log_allowed, some_log_left}
 use Rattle.mmu_core.proofs.forms.log.LogPlaces.{is_over, log_ends_free, log_plain, log_rises}
 use Rattle.mmu_core.proofs.lines.SimplePlaces.{OfLog, SimplePlace, none_raised}
-use Rattle.mmu_core.proofs.machine.GoesOn.{GoesToSimple, GoesUnderWay, simple_is_no_access}
-use Rattle.mmu_core.proofs.lines.FormLaws.{FormLaws, IsAccess, rests_on}
+use Rattle.mmu_core.proofs.machine.GoesOn.{GoesUnderWay, GoesWithin}
+use Rattle.mmu_core.proofs.lines.FormLaws.{FormLaws, rests_on}
 
 -- ---- where it goes on to
 
@@ -44,9 +45,9 @@ pub log_goes : (n : LogNext) (words : List ℕ) → GoesUnderWay (after_log n wo
 log_goes (next.Goes p) words = tt
 log_goes _ words = tt
 
-log_goes_simple : (n : LogNext) (words : List ℕ) → GoesToSimple (after_log n words)
-log_goes_simple (next.Goes p) words = tt
-log_goes_simple _ words = tt
+log_within : (p : LogPlace) (n : LogNext) (words : List ℕ) → GoesWithin (place.Log p) (after_log n words)
+log_within p (next.Goes q) words = λ c. refl
+log_within p _ words = tt
 
 ends_over : (n : LogNext) (words : List ℕ) (answer : Answer) → after_log n words ≡ Ends answer → is_over n ≡ true
 ends_over (next.Goes p) words answer e = absurd (cc e)
@@ -213,7 +214,6 @@ module _ (command : Command) (h : Held) (v : ℕ) where
 
   pub log_simple : (p : LogPlace) → SimplePlace (place.Log p) command h v
   log_simple p = record {
-    goes = log_goes_simple (log_next p command h v) (log_reads p command h v);
     tells = OfLog p;
     raises = λ line.
         none_raised (after_log (log_next p command h v) (log_reads p command h v)) line h.answers _ (log_rises p h command);
@@ -222,22 +222,21 @@ module _ (command : Command) (h : Held) (v : ℕ) where
 
 -- ---- all that laws ask of it
 
-no_access_reads : (p : LogPlace) (c : Command) (h : Held) → IsAccess c → LogKnows p c h → ⊥
-no_access_reads p (Access gfn word op) h is K = let reads = log_knows_reads p (Access gfn word op) h K in cc reads
-no_access_reads p _ h is K = absurd is
-
 pub log_laws : (p : LogPlace) (c : Command) → FormLaws (place.Log p) c
 log_laws p c = record {
   goes = λ h v begun. log_goes (log_next p c h v) (log_reads p c h v);
-  apart = λ h v other. simple_is_no_access (outcome_at (place.Log p) c h v) (log_simple c h v p).goes;
+  within = λ h v. log_within p (log_next p c h v) (log_reads p c h v);
+  knows_for = λ h begun K. log_knows_reads p c h K;
+  rests_for = λ h begun R. R.0;
   simple = λ h v is. log_simple c h v p;
   rests = λ h other.
       rests_on (place.Log p) c h (is_some (log_read c)) (log_part p h c) (LogRests p c h) refl (log_rests_prop p c h) (λ R. R) (λ R. R);
   knows_prop = λ h other. log_knows_prop p c h;
-  no_access = λ h other begun is K. no_access_reads p c h is K;
   stays = λ z before set after other h own e. tt;
   accepts = λ z pool set h e. tt;
   accepts_prop = λ z slots. hlevel props;
   free = λ h v answer R e. log_free p c h v answer e;
   told = λ h v. OfLog p;
+  few = λ z pool set h holds K S most. log_allowed p c h (log_knows_reads p c h K) S most;
+  some = λ z t begun. some_log_left p z t;
 }

@@ -9,11 +9,12 @@ use Rattle.core_views.specs.declared.trace.Slot.{Slot}
 use Rattle.core_views.specs.declared.trace.Command.{Command}
 use Rattle.core_views.specs.declared.trace.Command.TheVariants.{Access, ChangeHost, ChangeRun, ClearLog, DeleteSlot, GetLog, Migrate, SetLog, SetSlot, Split}
 use Rattle.core_views.specs.Held.{Held}
-use Rattle.core_views.specs.Sizes.{actors_of}
-use Rattle.core_views.specs.SlotCommands.{arms, slot_invalidated}
+use Rattle.core_views.specs.Sizes.{AreSizes, actors_of}
+use Rattle.core_views.specs.SlotCommands.{arms, changes_slot, slot_invalidated}
 use Rattle.core_views.specs.SlotSets.{MemorySlots}
 use Rattle.spte_words.specs.Areas.{words_of_bits}
 use Rattle.part_steps.specs.declared.invalidations.Target.TheVariants as aim
+use Rattle.mmu_core.specs.lines.Bounds.{most_steps}
 use Rattle.mmu_core.specs.orders.ClaimSteps.{Pages}
 use Rattle.mmu_core.specs.forms.slot_change.SlotChangeKnows.{SlotChangeKnows}
 use Rattle.mmu_core.specs.forms.slot_change.SlotChangeLeft.{arms_left, begins_left, protects_left, slot_change_left}
@@ -113,6 +114,22 @@ slot_change_few (Begin p) command h most K =
 slot_change_few (End p) command h most K =
     let few = end_few p in let more = besides_few command h.state.sizes in omega (arith, few, more)
 slot_change_few _ command h most K = let more = besides_few command h.state.sizes in omega (arith, more)
+
+-- So its command allows.
+pub slot_change_allowed : (p : SlotChangePlace) (c : Command) (h : Held) → changes_slot c ≡ true → SlotChangeKnows p c h → AreSizes h.state.sizes
+    → h.topics.walk.level ≤ 4 → slot_change_left p c h.state.sizes h.topics ≤ most_steps h.state.sizes c
+slot_change_allowed p (Access gfn word op) h is K S most = absurd (cc is)
+slot_change_allowed p (ChangeHost page change) h is K S most = absurd (cc is)
+slot_change_allowed p (ChangeRun page change) h is K S most = absurd (cc is)
+slot_change_allowed p (GetLog id) h is K S most = absurd (cc is)
+slot_change_allowed p (ClearLog id first count words) h is K S most = absurd (cc is)
+slot_change_allowed p (Split gfn) h is K S most = absurd (cc is)
+slot_change_allowed p (SetLog id true) h is K S most =
+    let few = slot_change_few p (SetLog id true) h most K in let actors = S.actors in omega (arith, few, actors)
+slot_change_allowed p (SetLog id false) h is K S most =
+    let few = slot_change_few p (SetLog id false) h most K in let actors = S.actors in omega (arith, few, actors)
+slot_change_allowed p command h is K S most =
+    let few = slot_change_few p command h most K in let actors = S.actors in omega (arith, few, actors)
 
 pub some_change_left : (p : SlotChangePlace) (c : Command) (z : Sizes) (t : Topics) → 0 < slot_change_left p c z t
 some_change_left (AtOnce refusal) c z t = omega arith

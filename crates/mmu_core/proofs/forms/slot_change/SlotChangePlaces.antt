@@ -22,6 +22,7 @@ use Rattle.core_views.specs.SlotSets.{MemorySlots, flat_slots, slot_of_id}
 use Rattle.part_steps.specs.PartSteps.{IsAtRest}
 use Rattle.mmu_core.specs.orders.ClaimSteps.{Pages, claim_next}
 use Rattle.mmu_core.specs.lines.Forms.{Holds}
+use Rattle.mmu_core.specs.forms.slot_change.SlotChangeForm.{slot_change_is_first}
 use Rattle.mmu_core.specs.forms.slot_change.SlotChangeKnows.{FillsSet, SlotChangeHolds, RecordAccepts, SlotChangeKnows, SlotChangeRests, is_of_frames}
 use Rattle.mmu_core.specs.forms.slot_change.SlotChangeSteps.{slot_change_first, slot_change_outcome}
 use Rattle.mmu_core.specs.forms.slot_change.SlotChangeSteps.{slot_change_part, slot_target}
@@ -29,7 +30,7 @@ use Rattle.mmu_core.proofs.orders.ProtectPlaces.{protect_plain}
 use Rattle.mmu_core.proofs.orders.ClaimMade.{claim_is}
 use Rattle.mmu_core.proofs.lines.EitherPlace.{each_claim}
 use Rattle.mmu_core.proofs.orders.InvalidatePlaces.{begin_plain, end_plain}
-use Rattle.mmu_core.proofs.machine.GoesOn.{GoesToSimple, GoesUnderWay}
+use Rattle.mmu_core.proofs.machine.GoesOn.{GoesUnderWay, GoesWithin}
 use Rattle.mmu_core.proofs.machine.PartStepping.{is_publish, changes_word}
 use Rattle.mmu_core.proofs.slots.LiveStays.{OwnedStays}
 
@@ -58,11 +59,13 @@ change_quiet p h command other = (change_plain p h command other).1
 -- ---- where it goes on to
 
 pub slot_change_goes : (p : SlotChangePlace) (command : Command) (h : Held) (v : ℕ)
-    → GoesUnderWay (slot_change_outcome p command h v) × GoesToSimple (slot_change_outcome p command h v)
+    → GoesUnderWay (slot_change_outcome p command h v) × GoesWithin (place.SlotChange p) (slot_change_outcome p command h v)
 slot_change_goes (Claim begun) command h v =
-    each_claim (λ o. GoesUnderWay o × GoesToSimple o) (claim_next Pages begun h.state.sizes h.topics.claim v)
-    (place.SlotChange (Claim true)) (place.SlotChange Fill) Starved (tt, tt) (tt, tt) (tt, tt)
-slot_change_goes _ command h v = (tt, tt)
+    each_claim (λ o. GoesUnderWay o × GoesWithin (place.SlotChange (Claim begun)) o) (claim_next Pages begun h.state.sizes h.topics.claim v)
+    (place.SlotChange (Claim true)) (place.SlotChange Fill) Starved (tt, λ c. refl) (tt, λ c. refl) (tt, tt)
+slot_change_goes (AtOnce refusal) command h v = (tt, tt)
+slot_change_goes Give command h v = (tt, tt)
+slot_change_goes _ command h v = (tt, λ c. refl)
 
 -- ---- what it has loaded
 
@@ -100,6 +103,10 @@ accepts_prop Publish z command slots = hlevel props
 accepts_prop _ z command slots = hlevel props
 
 -- ---- where it begins
+
+pub change_begins : (r : Option (Option Refusal)) → slot_change_is_first (slot_change_first r) ≡ true
+change_begins None = refl
+change_begins (Some refusal) = refl
 
 -- It isn't answered at once for want of a frame.
 abbrev for_frames : Option (Option Refusal) → Bool

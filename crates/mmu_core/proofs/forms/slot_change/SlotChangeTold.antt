@@ -43,10 +43,9 @@ use Rattle.mmu_core.proofs.forms.slot_change.SlotChangeClaims.{change_claims_or_
 use Rattle.mmu_core.specs.forms.access.AccessSteps.{exiting}
 use Rattle.mmu_core.proofs.forms.slot_change.SlotChangePlaces.{slot_change_goes, accepts_prop, change_accepts, slot_change_knows_prop, slot_change_rests_prop}
 use Rattle.mmu_core.specs.forms.slot_change.SlotChangeKnows.{SlotChangeRests}
-use Rattle.mmu_core.specs.lines.Forms.{KnowsPart, outcome_at}
 use Rattle.mmu_core.proofs.forms.slot_change.SlotChangePlaces.{slot_change_stays}
-use Rattle.mmu_core.proofs.lines.FormLaws.{FormLaws, IsAccess, rests_on}
-use Rattle.mmu_core.proofs.machine.GoesOn.{simple_is_no_access}
+use Rattle.mmu_core.proofs.lines.FormLaws.{FormLaws, rests_on}
+use Rattle.mmu_core.proofs.forms.slot_change.SlotChangeCounted.{slot_change_allowed, some_change_left}
 
 -- ---- how it ends
 
@@ -174,7 +173,6 @@ module _ (h : Held) (command : Command) (v : ℕ) where
 
   pub slot_change_simple : (p : SlotChangePlace) → SimplePlace (place.SlotChange p) command h v
   slot_change_simple p = record {
-    goes = (slot_change_goes p command h v).1;
     tells = slot_change_told p;
     raises = change_raises p;
     claims = λ R. change_claims_or_not command h v p;
@@ -182,23 +180,22 @@ module _ (h : Held) (command : Command) (v : ℕ) where
 
 -- ---- all that laws ask of it
 
-no_access_changes : (p : SlotChangePlace) (c : Command) (h : Held) → IsAccess c → KnowsPart (place.SlotChange p) c h → ⊥
-no_access_changes p (Access gfn word op) h is K = cc K.0
-no_access_changes p _ h is K = absurd is
-
 pub slot_change_laws : (p : SlotChangePlace) (c : Command) → FormLaws (place.SlotChange p) c
 slot_change_laws p c = record {
   goes = λ h v begun. (slot_change_goes p c h v).0;
-  apart = λ h v other. simple_is_no_access (outcome_at (place.SlotChange p) c h v) (slot_change_simple h c v p).goes;
+  within = λ h v. (slot_change_goes p c h v).1;
+  knows_for = λ h begun K. K.0;
+  rests_for = λ h begun R. R.0;
   simple = λ h v is. slot_change_simple h c v p;
   rests = λ h other.
       rests_on (place.SlotChange p) c h (changes_slot c) (slot_change_part p h c) (SlotChangeRests p c h) refl (slot_change_rests_prop p c h)
       (λ R. R) (λ R. R);
   knows_prop = λ h other. slot_change_knows_prop p c h;
-  no_access = λ h other begun is K. no_access_changes p c h is K;
   stays = λ z before set after other h own e. slot_change_stays z before after h own p c e;
   accepts = λ z pool set h e. change_accepts p c z pool h e;
   accepts_prop = λ z slots. accepts_prop p z c slots;
   free = λ h v answer R e. slot_change_free p h c v answer e;
   told = λ h v. (slot_change_simple h c v p).tells;
+  few = λ z pool set h holds K S most. slot_change_allowed p c h K.0 K.1 S most;
+  some = λ z t begun. some_change_left p c z t;
 }

@@ -1,6 +1,7 @@
 -- The steps of a line that splits a large leaf: what each needs, what none of them is, what they leave, and how many are left.
 use Rattle.std.proofs.Common.{◌≡◌, ◌+◌, ◌<◌, ◌≤◌, ℕ, Bool, true, false, refl, ap, ◌∙◌, arith}
 use Rattle.std.specs.Prelude.{if◌then◌else◌, Option, None, Some}
+use Rattle.core_views.specs.declared.place.Place.TheVariants as place
 use Rattle.core_views.specs.declared.place.SplitPlace.{SplitPlace}
 use Rattle.core_views.specs.declared.place.SplitPlace.TheVariants.{Begin, Share, Walk, Claim, Fill, Role, Link, Give, Unshare, End}
 use Rattle.core_views.specs.declared.sizes.Sizes.{Sizes}
@@ -27,7 +28,7 @@ use Rattle.mmu_core.specs.orders.ShareSteps.{share_left}
 use Rattle.mmu_core.proofs.forms.access.FaultNeeds.{full_owns, owned_below}
 use Rattle.mmu_core.proofs.forms.access.FaultScans.{maps, one_maps_not, share_maps_not}
 use Rattle.mmu_core.proofs.lines.EitherPlace.{either_place}
-use Rattle.mmu_core.proofs.machine.GoesOn.{GoesToSimple, GoesUnderWay}
+use Rattle.mmu_core.proofs.machine.GoesOn.{GoesUnderWay, GoesWithin}
 use Rattle.mmu_core.proofs.machine.PartStepping.{brings, changes_word, is_told, quiet_told}
 use Rattle.mmu_core.proofs.orders.ClaimMade.{claim_few, claim_is, claim_leaves, claim_made, claim_needs}
 use Rattle.mmu_core.proofs.orders.ShareMade.{share_is, share_needs}
@@ -63,9 +64,9 @@ split_needs (End e) h gfn R K = (K.0.section, K.0.owes_none)
 
 -- ---- where it goes on to
 
-pub split_goes : (p : SplitPlace) (z : Sizes) (t : Topics) (v : ℕ) → GoesUnderWay (split_outcome p z t v) × GoesToSimple (split_outcome p z t v)
+pub split_goes : (p : SplitPlace) (z : Sizes) (t : Topics) (v : ℕ) → GoesUnderWay (split_outcome p z t v) × GoesWithin (place.Split p) (split_outcome p z t v)
 split_goes (End e) z t v = (tt, tt)
-split_goes _ z t v = (tt, tt)
+split_goes _ z t v = (tt, λ c. refl)
 
 -- ---- what it isn't
 

@@ -1,5 +1,5 @@
 -- A line that splits a large leaf at its places, which are of a simple form: all that laws ask of it.
-use Rattle.std.proofs.Common.{◌≡◌, inl, inr, ℕ, refl}
+use Rattle.std.proofs.Common.{◌≡◌, inl, inr, ℕ, arith, refl}
 use Rattle.std.proofs.Props.{props}
 use Rattle.std.specs.Prelude.{List, [], ◌∷◌, false}
 use Rattle.core_views.specs.declared.answer.Answer.{Answer}
@@ -21,10 +21,9 @@ use Rattle.mmu_core.specs.lines.Delays.{line_waits}
 use Rattle.core_views.specs.declared.place.SplitEnd.{SplitEnd}
 use Rattle.core_views.specs.declared.topics.Topics.{Topics}
 use Rattle.mmu_core.proofs.forms.split.SplitClaims.{split_claims_or_not}
-use Rattle.mmu_core.proofs.forms.split.SplitPlaces.{split_goes, split_untold}
+use Rattle.mmu_core.proofs.forms.split.SplitPlaces.{some_split_left, split_few, split_goes, split_untold}
 use Rattle.mmu_core.proofs.lines.FormLaws.{FormLaws}
 use Rattle.mmu_core.proofs.lines.SimplePlaces.{Exit, Nothing, SimplePlace, Told, none_raised}
-use Rattle.mmu_core.proofs.machine.GoesOn.{simple_is_no_access}
 use Rattle.mmu_core.proofs.machine.PartStepping.{untold_rises}
 
 -- It tells nothing but that it is starved: what is so of these two is so of what each step tells.
@@ -66,7 +65,6 @@ split_knows_prop _ z gfn t = hlevel props
 
 split_simple : (gfn : ℕ) (h : Held) (v : ℕ) (p : SplitPlace) → SimplePlace (place.Split p) (command.Split gfn) h v
 split_simple gfn h v p = record {
-  goes = (split_goes p h.state.sizes h.topics v).1;
   tells = split_told p gfn h v;
   raises = λ line.
       none_raised (split_outcome p h.state.sizes h.topics v) line h.answers _ (untold_rises (split_part p gfn h.topics) (split_untold p gfn h.topics));
@@ -76,7 +74,9 @@ split_simple gfn h v p = record {
 pub split_laws : (p : SplitPlace) (c : Command) → FormLaws (place.Split p) c
 split_laws p (command.Split gfn) = record {
   goes = λ h v begun. (split_goes p h.state.sizes h.topics v).0;
-  apart = λ h v other. simple_is_no_access (split_outcome p h.state.sizes h.topics v) (split_goes p h.state.sizes h.topics v).1;
+  within = λ h v. (split_goes p h.state.sizes h.topics v).1;
+  knows_for = λ h begun K. refl;
+  rests_for = λ h begun R. refl;
   simple = λ h v is. split_simple gfn h v p;
   rests = λ h other. inr (record {
     step = split_part p gfn h.topics;
@@ -87,28 +87,31 @@ split_laws p (command.Split gfn) = record {
     rests = λ N M. N;
   });
   knows_prop = λ h other. split_knows_prop p h.state.sizes gfn h.topics;
-  no_access = λ h other begun is K. absurd is;
   stays = λ z before set after other h own e. tt;
   accepts = λ z pool set h e. tt;
   accepts_prop = λ z slots. hlevel props;
   free = λ h v answer R e. split_free p gfn h v answer e;
   told = λ h v. split_told p gfn h v;
+  few = λ z pool set h holds K S most. let few = split_few p h.state.sizes h.topics most in omega (arith, few);
+  some = λ z t begun. some_split_left p z t;
 }
 split_laws p _ = record {
   goes = λ h v begun. tt;
-  apart = λ h v other. tt;
+  within = λ h v command. refl;
+  knows_for = λ h begun K. absurd K;
+  rests_for = λ h begun R. absurd R;
   simple = λ h v is. record {
-    goes = tt;
     tells = Nothing;
     raises = λ line. none_raised (Goes (place.Split p)) line h.answers 0 refl;
     claims = λ R. absurd R;
   };
   rests = λ h other. inl (λ R. absurd R);
   knows_prop = λ h other. hlevel props;
-  no_access = λ h other begun is K. absurd K;
   stays = λ z before set after other h own e. absurd e;
   accepts = λ z pool set h e. tt;
   accepts_prop = λ z slots. hlevel props;
   free = λ h v answer R e. absurd R;
   told = λ h v. Nothing;
+  few = λ z pool set h holds K S most. absurd K;
+  some = λ z t begun. some_split_left p z t;
 }

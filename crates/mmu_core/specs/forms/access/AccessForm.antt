@@ -1,6 +1,7 @@
 -- What an access says at its places.
-use Rattle.std.specs.Prelude.{[], Some}
+use Rattle.std.specs.Prelude.{Bool, [], Some, false, true}
 use Rattle.core_views.specs.declared.place.AccessPlace.{AccessPlace}
+use Rattle.core_views.specs.declared.place.AccessPlace.TheVariants.{Enter}
 use Rattle.core_views.specs.declared.place.Place.TheVariants as place
 use Rattle.core_views.specs.Slots.{is_write}
 use Rattle.part_steps.specs.declared.part_step.PartStep.TheVariants as part
@@ -10,8 +11,14 @@ use Rattle.mmu_core.specs.forms.access.AccessSteps.{access_caches, access_loads,
 use Rattle.mmu_core.specs.lines.Bounds.{access_left}
 use Rattle.mmu_core.specs.lines.Form.{Form, of_access, plain_form}
 
+abbrev pub access_is_first : AccessPlace → Bool
+access_is_first (Enter false) = true
+access_is_first _ = false
+
 abbrev pub access_form : AccessPlace → Form
 access_form p = record (plain_form (place.Access p)) {
+  is_for = λ command. of_access command (λ gfn word op. true) false;
+  is_first = access_is_first p;
   part = λ command h. of_access command (λ gfn word op. access_part p gfn h.topics) (Some part.Seq);
   note = λ command h. of_access command (λ gfn word op. access_note p) 0;
   outcome = λ command h v. of_access command (λ gfn word op. access_outcome p h gfn op v) (Goes (place.Access p));

@@ -1,6 +1,7 @@
 -- What a line that changes a host page says at its places.
-use Rattle.std.specs.Prelude.{[], Some}
+use Rattle.std.specs.Prelude.{Bool, [], Some, false, true}
 use Rattle.core_views.specs.declared.place.HostPlace.{HostPlace}
+use Rattle.core_views.specs.declared.place.HostPlace.TheVariants.{Look}
 use Rattle.core_views.specs.declared.place.Place.TheVariants as place
 use Rattle.part_steps.specs.declared.part_step.PartStep.TheVariants as part
 use Rattle.part_steps.specs.PartSteps.{PartNeeds}
@@ -10,8 +11,14 @@ use Rattle.mmu_core.specs.forms.host.HostSteps.{host_note, host_outcome, host_pa
 use Rattle.mmu_core.specs.forms.host.HostLeft.{host_left}
 use Rattle.mmu_core.specs.lines.Form.{Form, of_change, plain_form}
 
+abbrev pub host_is_first : HostPlace → Bool
+host_is_first (Look moves) = true
+host_is_first _ = false
+
 abbrev pub host_form : HostPlace → Form
 host_form p = record (plain_form (place.Host p)) {
+  is_for = λ command. of_change command (λ page change. true) false;
+  is_first = host_is_first p;
   part = λ command h. of_change command (λ page change. Some (host_part p page change h)) (Some part.Seq);
   note = λ command h. of_change command (λ page change. host_note p page h) 0;
   outcome = λ command h v. of_change command (λ page change. host_outcome p page h v) (Goes (place.Host p));

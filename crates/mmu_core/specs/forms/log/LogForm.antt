@@ -1,6 +1,7 @@
 -- What a line that reads a dirty log says at its places.
-use Rattle.std.specs.Prelude.{◌≡◌, Some, is_some, true}
+use Rattle.std.specs.Prelude.{◌≡◌, Bool, Some, false, is_some, true}
 use Rattle.core_views.specs.declared.place.LogPlace.{LogPlace}
+use Rattle.core_views.specs.declared.place.LogPlace.TheVariants.{AtOnce, Exclude, Peek}
 use Rattle.core_views.specs.declared.place.Place.TheVariants as place
 use Rattle.core_views.specs.LogCommands.{log_read}
 use Rattle.part_steps.specs.PartSteps.{PartNeeds}
@@ -11,8 +12,16 @@ use Rattle.mmu_core.specs.forms.log.LogSteps.{log_next, log_note, log_part, log_
 use Rattle.mmu_core.specs.forms.log.LogTells.{log_tells}
 use Rattle.mmu_core.specs.lines.Form.{Form, plain_form}
 
+abbrev pub log_is_first : LogPlace → Bool
+log_is_first (AtOnce refusal) = true
+log_is_first Exclude = true
+log_is_first (Peek false) = true
+log_is_first _ = false
+
 abbrev pub log_form : LogPlace → Form
 log_form p = record (plain_form (place.Log p)) {
+  is_for = λ command. is_some (log_read command);
+  is_first = log_is_first p;
   part = λ command h. Some (log_part p h command);
   note = λ command h. log_note p h command;
   outcome = λ command h v. after_log (log_next p command h v) (log_reads p command h v);

@@ -1,6 +1,6 @@
 -- The note of the look at a virtual processor, of a line that reads a dirty log and awaits the flush of each: it tells whether the line may end with this look.
-use Rattle.std.proofs.Common.{◌≡◌, ◌≢◌, ◌⊎◌, inl, inr, ◌<◌, ◌≤◌, ℕ, refl, sym, ap, arith}
-use Rattle.std.specs.Prelude.{Bool, true, false, ◌+◌, ◌||◌, if◌then◌else◌, None, is_some}
+use Rattle.std.proofs.Common.{◌≡◌, ◌⊎◌, inl, inr, ◌<◌, ◌≤◌, ℕ, refl, sym, subst, ap, ◌∙◌, arith}
+use Rattle.std.specs.Prelude.{Bool, true, false, ◌+◌, ◌||◌, if◌then◌else◌, None}
 use Rattle.std.proofs.lemmas.Bool.Decides.{nat_tests}
 use Rattle.core_views.specs.declared.kind.Kind.{Kind}
 use Rattle.core_views.specs.declared.place.LogPlace.{LogPlace}
@@ -8,10 +8,7 @@ use Rattle.core_views.specs.declared.place.LogPlace.TheVariants.{AtOnce, Await, 
 use Rattle.core_views.specs.declared.place.Place.{Place}
 use Rattle.core_views.specs.declared.place.Place.TheVariants as place
 use Rattle.core_views.specs.declared.trace.Command.{Command}
-use Rattle.core_views.specs.declared.trace.Command.TheVariants.{Access, ChangeHost, ChangeRun, ClearLog, GetLog, Migrate, Split}
 use Rattle.core_views.specs.Held.{Held}
-use Rattle.core_views.specs.LogCommands.{log_read}
-use Rattle.core_views.specs.SlotCommands.{changes_slot}
 use Rattle.spte_words.specs.declared.area.Area.TheVariants as area
 use Rattle.spte_words.proofs.Places.{place_at as word_place_at}
 use Rattle.part_steps.specs.declared.part_step.PartStep.TheVariants as part
@@ -27,24 +24,19 @@ use Rattle.mmu_core.specs.forms.log.LogOutcomes.{after_log}
 use Rattle.mmu_core.specs.forms.log.LogSteps.{awaits_last}
 use Rattle.mmu_core.specs.lines.ScanPlaces.{claim_at}
 use Rattle.mmu_core.specs.machine.Steps.{task_at}
+use Rattle.mmu_core.proofs.lines.Forms.{rests_for}
 use Rattle.mmu_core.proofs.lines.LineClaims.{MayEnd}
+use Rattle.mmu_laws.proofs.forms.log.ReadsNot.{reads_not}
 use Rattle.mmu_laws.specs.steps.NoteLaws.{AwaitsLast, LoadsLastWord, NoteTells}
+
+-- The line awaits a flush there.
+abbrev pub IsAwait : Place → Type 0
+IsAwait p = p ≡ place.Log Await
 
 -- Such a line claims in no map.
 pub awaits_without : (map : FreeMap) → claim_at map (place.Log Await) ≡ None
 awaits_without Pages = refl
 awaits_without Frames = refl
-
--- A line that changes a slot reads no log.
-pub changes_no_log : (command : Command) → changes_slot command ≡ true → is_some (log_read command) ≡ true → ⊥
-changes_no_log (Access gfn word op) changes reads = cc changes
-changes_no_log (ChangeHost page change) changes reads = cc changes
-changes_no_log (ChangeRun page change) changes reads = cc changes
-changes_no_log (GetLog id) changes reads = cc changes
-changes_no_log (Migrate call) changes reads = cc changes
-changes_no_log (Split gfn) changes reads = cc changes
-changes_no_log (ClearLog id first count words) changes reads = cc changes
-changes_no_log _ changes reads = cc reads
 
 -- No other line may end with a step with which it waits.
 log_may_end : (q : LogPlace) (command : Command) (h : Held) (v : ℕ) → MayEnd (place.Log q) command h v → place.Log q ≡ place.Log Await
@@ -53,20 +45,13 @@ log_may_end (AtOnce refusal) command h v M = absurd (let waits = M.waits in cc w
 log_may_end (Peek begun) command h v M = absurd (let waits = M.waits in cc waits)
 log_may_end _ command h v M = absurd (let note = M.note in cc note)
 
-pub may_end_awaits : (p : Place) (command : Command) (h : Held) (v : ℕ) → RestsAt p command h → MayEnd p command h v → p ≡ place.Log Await
-may_end_awaits (place.Access p) (Access gfn word op) h v R M = absurd (let reads = M.reads in cc reads)
-may_end_awaits (place.Access p) _ h v R M = absurd R
-may_end_awaits (place.Host p) (ChangeHost page change) h v R M = absurd (let reads = M.reads in cc reads)
-may_end_awaits (place.Host p) _ h v R M = absurd R
-may_end_awaits (place.HostRun p) (ChangeRun page change) h v R M = absurd (let reads = M.reads in cc reads)
-may_end_awaits (place.HostRun p) _ h v R M = absurd R
-may_end_awaits (place.SlotChange p) command h v R M = absurd (changes_no_log command R.0 M.reads)
-may_end_awaits (place.Split p) (Split gfn) h v R M = absurd (let reads = M.reads in cc reads)
-may_end_awaits (place.Split p) _ h v R M = absurd R
-may_end_awaits place.Between command h v R M = absurd (let note = M.note in cc note)
+pub may_end_awaits : (p : Place) (command : Command) (h : Held) (v : ℕ) → RestsAt p command h → MayEnd p command h v → IsAwait p
 may_end_awaits (place.Log q) command h v R M = log_may_end q command h v M
+may_end_awaits place.Between command h v R M = absurd (let note = M.note in cc note)
+may_end_awaits p command h v R M =
+    absurd (let none = reads_not p command h (rests_for p command h tt R) refl in let reads = M.reads in cc (none, reads))
 
-pub awaits_or_not : (p : Place) → (p ≡ place.Log Await) ⊎ (p ≢ place.Log Await)
+pub awaits_or_not : (p : Place) → IsAwait p ⊎ (IsAwait p → ⊥)
 awaits_or_not (place.Log Await) = inl refl
 awaits_or_not (place.Log _) = inr (λ e. cc e)
 awaits_or_not _ = inr (λ e. cc e)
@@ -95,7 +80,7 @@ module _ (command : Command) (h : Held) (v : ℕ) where
   loads_none : (note : ℕ) → LoadsLastWord (place.Log Await) h.state.sizes (look_at note) → ⊥
   loads_none note L = let some = L.ends in let none = awaits_without L.map in cc (some, none)
 
-  pub await_tells : NoteTells (place.Log Await) h.state.sizes (kind_of_task h.state.sizes (task_at (place.Log Await) command h))
+  await_tells : NoteTells (place.Log Await) h.state.sizes (kind_of_task h.state.sizes (task_at (place.Log Await) command h))
       (outcome_at (place.Log Await) command h v) v
   await_tells = by (has_to_flush v) (awaits_last h) refl refl
     where
@@ -129,3 +114,12 @@ module _ (command : Command) (h : Held) (v : ℕ) where
           goes : (b : Bool) → 0 ≡ ends_with (after_log (if b || true then next.Goes Await else next.Reads) h.harvest)
           goes true = refl
           goes false = refl
+
+pub each_await_tells : (p : Place) → IsAwait p → (command : Command) (h : Held) (v : ℕ)
+    → NoteTells p h.state.sizes (kind_of_task h.state.sizes (task_at p command h)) (outcome_at p command h v) v
+each_await_tells p is command h v =
+    subst (λ q. NoteTells q h.state.sizes (kind_of_task h.state.sizes (task_at q command h)) (outcome_at q command h v) v) (sym is) (await_tells command h v)
+
+-- So a place at which a line claims is none of those.
+pub await_claims_none : (p : Place) → IsAwait p → (map : FreeMap) → claim_at map p ≡ None
+await_claims_none p is map = ap (claim_at map) is ∙ awaits_without map

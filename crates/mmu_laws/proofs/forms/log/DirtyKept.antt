@@ -53,7 +53,7 @@ use Rattle.mmu_laws.proofs.flat.BeginningsKept.{stands_at}
 use Rattle.mmu_laws.proofs.flat.FlatKept.{told_events}
 use Rattle.mmu_laws.proofs.forms.log.HarvestFrames.{among_read}
 use Rattle.mmu_laws.proofs.forms.access.PageFound.{contains_bounds}
-use Rattle.mmu_laws.proofs.flat.QuietKinds.{tells_quiet}
+use Rattle.mmu_laws.proofs.EachForm.{tells_quiet}
 use Rattle.mmu_laws.proofs.flat.Told.{facts_behind}
 use Rattle.mmu_core.proofs.forms.log.ReadingPlaces.{reading_is}
 use Rattle.mmu_core.specs.forms.log.Readings.{reading_at}
@@ -225,7 +225,7 @@ module _ (z : Sizes) (v : View) (f : Flat) (a gfn : ℕ) (line : Line) (D : IsDi
       (answer_in (task_at (place.Log (log.Peek begun)) line.command (v.hand a)) v.words)))) D.pending
   told_stays p X never =
       harmless_stay f gfn (Tells p) (quiet_harmless (Tells p)
-      (tells_quiet p line.command (v.hand a) (answer_in (task_at p line.command (v.hand a)) v.words) refl)) D.pending
+      (tells_quiet p line.command (v.hand a) (answer_in (task_at p line.command (v.hand a)) v.words) refl refl)) D.pending
 
   -- It is dirty after the step.
   pub dirty_stays : (p : Place) → StepsAlone z v f a line p → publishes p ≡ false

@@ -9,7 +9,6 @@ use Rattle.core_views.specs.declared.place.Place.TheVariants as place
 use Rattle.core_views.specs.declared.place.SlotChangePlace.TheVariants as change
 use Rattle.core_views.specs.declared.sizes.Sizes.{Sizes}
 use Rattle.core_views.specs.declared.trace.Command.{Command}
-use Rattle.core_views.specs.declared.trace.Command.TheVariants.{Access, ChangeHost, ChangeRun, Split}
 use Rattle.core_views.specs.declared.trace.Line.{Line}
 use Rattle.core_views.specs.declared.trace.Slot.{Slot as SlotOf}
 use Rattle.core_views.specs.Actors.{is_same}
@@ -45,14 +44,15 @@ use Rattle.log_invariant.proofs.HeldLogs.{IsLoggedNow}
 use Rattle.mmu_laws.specs.forms.log.ReadingsAlone.{ReadingHasBegun, HasReadPage, LeavesClear, LogsAreExact, WritesLater}
 use Rattle.mmu_laws.proofs.alone.BitsKept.{bits_kept}
 use Rattle.mmu_laws.proofs.forms.slot_change.BitsPublished.{bits_published}
-use Rattle.mmu_laws.proofs.alone.NoReadings.{tells_none}
+use Rattle.mmu_laws.proofs.forms.log.NoReadings.{tells_none}
 use Rattle.mmu_laws.proofs.forms.log.LoneReadingEvents.{readings_exact}
 use Rattle.mmu_laws.proofs.alone.ToldFlat.{answer_none, begin_none, none_append, none_read_dirty}
 use Rattle.mmu_laws.proofs.forms.log.ReadKept.{due_before, is_refused, read_begun, read_dirty, taken_begun, taken_clear}
 use Rattle.mmu_laws.proofs.forms.log.LoneReadingSteps.{GoesStill, StepsAlone, goes_still}
 use Rattle.mmu_laws.proofs.flat.FlatKept.{told_events, told_kinds}
 use Rattle.mmu_laws.proofs.flat.Told.{told_others}
-use Rattle.mmu_laws.proofs.forms.log.AwaitNotes.{changes_no_log}
+use Rattle.mmu_core.proofs.lines.Forms.{knows_for}
+use Rattle.mmu_laws.proofs.forms.log.ReadsNot.{reads_not}
 use Rattle.mmu_core.proofs.forms.log.LogPlaces.{is_over}
 use Rattle.mmu_core.proofs.forms.log.ReadingPlaces.{reading_ends, reading_goes, reading_is}
 use Rattle.core_views.specs.Harvests.{slot_read}
@@ -63,14 +63,7 @@ use Rattle.mmu_core.specs.forms.slot_change.SlotTargets.{slot_or_none}
 
 no_log_line : (p : Place) (command : Command) (h : Held) → reading_at p command h ≡ None → IsUnderWay p → KnowsPart p command h
     → is_some (log_read command) ≡ true → ⊥
-no_log_line (place.Access p) (Access gfn word op) h other begun K reads = cc reads
-no_log_line (place.Host p) (ChangeHost page change_) h other begun K reads = cc reads
-no_log_line (place.HostRun p) (ChangeRun page change_) h other begun K reads = cc reads
-no_log_line (place.SlotChange p) command h other begun K reads = changes_no_log command K.0 reads
-no_log_line (place.Log p) command h other begun K reads = cc other
-no_log_line (place.Split p) (Split gfn) h other begun K reads = cc reads
-no_log_line place.Between command h other begun K reads = begun
-no_log_line _ _ h other begun K reads = K
+no_log_line p command h other begun K reads = let none = reads_not p command h (knows_for p command h begun K) other in cc (none, reads)
 
 module _ (z : Sizes) (v : View) (f : Flat) (a : ℕ) (line : Line) (p : Place) (X : StepsAlone z v f a line p)
     (kept : Invariant z (stepped a line line.command p v)) where

@@ -49,7 +49,8 @@ use Rattle.log_invariant.proofs.StepPlaces.{of_hand, publishes}
 use Rattle.mmu_laws.specs.flat.FlatInvariant.{FlatInvariant}
 use Rattle.mmu_laws.specs.flat.FlatLogs.{FlatLogs, IsDirtyIn}
 use Rattle.mmu_laws.proofs.forms.log.AskedPages.{read_inside}
-use Rattle.mmu_laws.proofs.flat.BeginningsKept.{begun_later, told_later}
+use Rattle.mmu_laws.proofs.flat.BeginningsKept.{told_later}
+use Rattle.mmu_laws.proofs.forms.log.BegunLater.{begun_later}
 use Rattle.mmu_laws.proofs.flat.FlatKept.{told_events}
 use Rattle.mmu_laws.proofs.forms.log.HarvestFrames.{among_read, read_among}
 use Rattle.mmu_laws.proofs.flat.LogsStill.{armed_still, bit_was, caused_still, dirty_still, logged_before_it}

@@ -44,7 +44,8 @@ use Rattle.mmu_laws.proofs.forms.log.MarkedBits.{take_clears}
 use Rattle.mmu_laws.proofs.forms.log.ReadPages.{IsNew, ReadsLogged, next_mask, next_word, none_read, read_now, reads_logged}
 use Rattle.mmu_laws.proofs.forms.log.AskedPages.{read_inside}
 use Rattle.mmu_laws.proofs.forms.log.LoneReadingSteps.{StepsAlone}
-use Rattle.mmu_laws.proofs.flat.BeginningsKept.{StandsAt, begun_later, stands_at}
+use Rattle.mmu_laws.proofs.flat.BeginningsKept.{StandsAt, stands_at}
+use Rattle.mmu_laws.proofs.forms.log.BegunLater.{begun_later}
 
 -- ---- places of a reading
 

@@ -34,7 +34,8 @@ use Rattle.mmu_core.proofs.machine.Stepping.{IsStep}
 use Rattle.mmu_core.specs.declared.outcome.Outcome.{Outcome}
 use Rattle.mmu_core.specs.forms.log.Readings.{has_begun, reading_at}
 use Rattle.part_steps.specs.declared.task.Task.{Task}
-use Rattle.mmu_laws.proofs.flat.BeginningsKept.{begun_later, told_later}
+use Rattle.mmu_laws.proofs.flat.BeginningsKept.{told_later}
+use Rattle.mmu_laws.proofs.forms.log.BegunLater.{begun_later}
 use Rattle.mmu_laws.proofs.flat.FlatKept.{told_events, told_kinds}
 use Rattle.mmu_laws.specs.forms.log.ReadSoFar.{HasReadTo, ReadSoFar}
 use Rattle.mmu_laws.proofs.forms.log.ReadingSteps.{told_after}

@@ -8,7 +8,7 @@ use Rattle.core_views.specs.declared.place.Place.{Place}
 use Rattle.core_views.specs.declared.place.Place.TheVariants as place
 use Rattle.core_views.specs.declared.sizes.Sizes.{Sizes}
 use Rattle.core_views.specs.declared.trace.Command.{Command}
-use Rattle.core_views.specs.declared.trace.Command.TheVariants.{Access, ChangeHost, ChangeRun, ClearLog, GetLog, Split}
+use Rattle.core_views.specs.declared.trace.Command.TheVariants.{Access, ChangeHost, ChangeRun, Split}
 use Rattle.core_views.specs.declared.trace.Line.{Line}
 use Rattle.core_views.specs.declared.trace.Slot.{Slot as SlotOf}
 use Rattle.core_views.specs.Events.{after_all}
@@ -43,6 +43,8 @@ use Rattle.log_invariant.specs.Covered.{is_marked}
 use Rattle.log_invariant.proofs.HeldLogs.{IsLoggedNow}
 use Rattle.log_invariant.proofs.LogWords.{idle_off_log, log_same, marked_kept, touch_leaves_log}
 use Rattle.log_invariant.proofs.StepPlaces.{Makes, StepAt, Touches, publishes, step_at, takes, takes_none}
+use Rattle.mmu_core.proofs.lines.Forms.{knows_for}
+use Rattle.mmu_laws.proofs.forms.log.ReadsNot.{reads_not}
 use Rattle.mmu_laws.proofs.flat.FlatKept.{told_events, told_kinds}
 use Rattle.mmu_laws.proofs.flat.FlatRuns.{none_under}
 use Rattle.mmu_laws.proofs.flat.LogsKept.{ReadyLogs}
@@ -150,20 +152,6 @@ others_read z v f a line command p S ready i apart lt = by (own_reading k) refl 
 
 -- ---- its own
 
--- A line of another form reads no log.
-reads_not : (p : Place) (command : Command) (h : Held) → KnowsPart p command h → IsUnderWay p → reading_at p command h ≡ None
-    → is_some (log_read command) ≡ false
-reads_not place.Between command h K under other = absurd under
-reads_not (place.Access q) (Access gfn word op) h K under other = refl
-reads_not (place.Host q) (ChangeHost page change) h K under other = refl
-reads_not (place.HostRun q) (ChangeRun page change) h K under other = refl
-reads_not (place.SlotChange q) (GetLog id) h K under other = absurd (let changes = K.0 in cc changes)
-reads_not (place.SlotChange q) (ClearLog id first count words) h K under other = absurd (let changes = K.0 in cc changes)
-reads_not (place.SlotChange q) _ h K under other = refl
-reads_not (place.Log q) command h K under other = absurd (cc other)
-reads_not (place.Split q) (Split gfn) h K under other = refl
-reads_not _ _ h K under other = absurd K
-
 own_then : (z : Sizes) (v : View) (f : Flat) (a : ℕ) (line : Line) (command : Command) (p : Place) → IsStep z v a line command p → ReadyLogs z v f
     → Invariant z (stepped a line command p v)
     → let g : Held = hand_after line command p (v.hand a) (answer_in (task_at p command (v.hand a)) v.words) in
@@ -183,13 +171,9 @@ own_then z v f a line command p S ready kept = by (reading_at p command (v.hand 
     none : reading_at p command (v.hand a) ≡ None → (q : Place) → KnowsPart q line.command g → Then (reading_at q command g)
     none at (place.Log q) K =
         let reads : is_some (log_read command) ≡ true = subst (λ c. is_some (log_read c) ≡ true) S.command_is (log_knows_reads q line.command g K) in
-        let no = reads_not p command (v.hand a) (step_knows z v a line command p S ready.holds) S.begun at in absurd (cc (no, reads))
-    none at place.Between K = tt
-    none at (place.Access q) K = tt
-    none at (place.SlotChange q) K = tt
-    none at (place.Host q) K = tt
-    none at (place.HostRun q) K = tt
-    none at (place.Split q) K = tt
+        let no =
+        reads_not p command (v.hand a) (knows_for p command (v.hand a) S.begun (step_knows z v a line command p S ready.holds)) at in absurd (cc (no, reads))
+    none at _ K = tt
 
     by : (o : Option Reading) → reading_at p command (v.hand a) ≡ o → Then (reading_at g.state.place command g)
     by (Some r) at = own_read z v f a line command p r.command ready S r.place at

@@ -1,5 +1,5 @@
 -- What a line has taken out of a dirty log it has taken still after its step, up to the one with which it has read it; and what is covered, or taken, stays so.
-use Rattle.std.proofs.Common.{◌≡◌, ◌≢◌, ◌⊎◌, inl, inr, ◌+◌, List, ℕ, Bool, true, false, refl, sym, subst}
+use Rattle.std.proofs.Common.{◌≡◌, ◌≢◌, ◌⊎◌, inl, inr, ◌+◌, List, ℕ, Bool, true, false, refl, sym, subst, ap, ◌∙◌}
 use Rattle.std.specs.Int.Bits.{bit_and}
 use Rattle.std.specs.Prelude.{None, Option, Some, nat_lt}
 use Rattle.core_views.specs.declared.place.LogPlace.{LogPlace}
@@ -20,7 +20,9 @@ use Rattle.mmu_core.specs.invariant.TopicsInvariant.{TopicsInvariant}
 use Rattle.mmu_core.specs.lines.Forms.{outcome_at}
 use Rattle.mmu_core.specs.forms.log.LogSteps.{log_next, mask_read, next_page, read_more, reads_last, slot_asked, word_read}
 use Rattle.mmu_core.specs.machine.Outcomes.{place_after}
-use Rattle.mmu_core.specs.machine.Steps.{task_at}
+use Rattle.core_views.specs.declared.kind.Kind.{Kind}
+use Rattle.core_views.specs.declared.place.Place.TheVariants as place
+use Rattle.mmu_core.specs.machine.Steps.{idle_after, task_at}
 use Rattle.mmu_core.specs.machine.View.{View, answer_in, hand_after, stepped}
 use Rattle.mmu_core.proofs.forms.access.AccessParts.{AreSmall}
 use Rattle.mmu_core.proofs.lines.EitherPlace.{either_place}
@@ -50,6 +52,26 @@ ends_of (Some r) = ends_there r.place
 
 abbrev pub ends_taking : Place → Command → Held → Bool
 ends_taking p command h = ends_of (reading_at p command h)
+
+-- Its place says which reading that is.
+pub ends_reading : (p : Place) (command : Command) (h : Held) → ends_taking p command h ≡ true
+    → (c : Command) × (reading_at p command h ≡ Some (record { place = Await; command = c }))
+ends_reading p command h = by (reading_at p command h) refl
+  where
+    there : (q : LogPlace) → ends_there q ≡ true → q ≡ Await
+    there Await e = refl
+    there _ e = absurd (cc e)
+
+    by : (o : Option Reading) → reading_at p command h ≡ o → ends_of o ≡ true
+        → (c : Command) × (reading_at p command h ≡ Some (record { place = Await; command = c }))
+    by None at e = absurd (cc e)
+    by (Some r) at e = (r.command, at ∙ ap (λ q. Some (record { place = q; command = r.command })) (there r.place e))
+
+-- What it has taken hangs on no topic.
+pub idle_taken : (q : Place) (command : Command) (h : Held) (kind : Kind) (x gfn : ℕ) → (taken_at q command h).Has gfn
+    → (taken_at q command (idle_after h kind x)).Has gfn
+idle_taken (place.Log q) command h kind x gfn T = T
+idle_taken _ command h kind x gfn T = absurd T
 
 -- ---- by the order of a reading
 

@@ -40,7 +40,7 @@ use Rattle.mmu_core.specs.machine.Steps.{task_at}
 use Rattle.mmu_core.specs.machine.View.{View, answer_in, hand_after, part_stepped, stepped}
 use Rattle.mmu_core.proofs.lines.EitherPlace.{each_claim, either_place}
 use Rattle.mmu_core.proofs.lines.KnowsKept.{step_knows}
-use Rattle.mmu_core.proofs.forms.log.LogTold.{log_knows_reads}
+use Rattle.mmu_core.proofs.lines.Forms.{knows_for}
 use Rattle.mmu_core.proofs.machine.Columns.{at_upd}
 use Rattle.mmu_core.proofs.machine.Stepping.{IsStep}
 use Rattle.log_invariant.proofs.StepPlaces.{of_hand}
@@ -105,8 +105,8 @@ module _ (id : ℕ) (h : Held) (x : ℕ) where
 given_after : (command : Command) (p : Place) (h : Held) (x : ℕ) → KnowsPart p command h → HasGiven command p h.slots
     → HasGiven command (place_after (outcome_at p command h x)) (records_at p command h.slots)
 given_after (SetLog id true) (place.SlotChange p) h x K G = change_given id h x p K.1 G
-given_after (SetLog id true) (place.Log p) h x K G = let reads = log_knows_reads p (SetLog id true) h K in absurd (cc reads)
-given_after (SetLog id true) _ h x K G = tt
+given_after (SetLog id true) place.Between h x K G = tt
+given_after (SetLog id true) p h x K G = absurd (let mine = knows_for p (SetLog id true) h tt K in cc mine)
 given_after _ p h x K G = tt
 
 given_first : (z : Sizes) (slots now_ : MemorySlots) (command : Command) → HasGiven command (first_place z slots command) now_

@@ -1,6 +1,6 @@
 -- The hand that a step of a line makes which reads a dirty log.
 use Rattle.std.specs.Prelude.{Bool, true, false, ◌||◌, ◌&&◌}
-use Rattle.std.proofs.Common.{◌≡◌, ℕ, List, [], ◌∷◌, ◌++◌, length, refl, sym, ap, ◌∙◌}
+use Rattle.std.proofs.Common.{◌≡◌, ◌≢◌, ℕ, List, [], ◌∷◌, ◌++◌, length, refl, sym, ap, ◌∙◌}
 use Rattle.core_views.specs.declared.answer.Answer.{Answer}
 use Rattle.core_views.specs.declared.answer.Answer.TheVariants.{Bits, Refused}
 use Rattle.core_views.specs.declared.answer.AnsweredLine.{AnsweredLine}
@@ -9,6 +9,7 @@ use Rattle.core_views.specs.declared.cache.Translation.{Translation}
 use Rattle.core_views.specs.declared.place.LogPlace.{LogPlace}
 use Rattle.core_views.specs.declared.place.Place.{Place}
 use Rattle.core_views.specs.declared.place.Place.TheVariants as place
+use Rattle.core_views.specs.declared.trace.Command.{Command}
 use Rattle.core_views.specs.declared.trace.Line.{Line}
 use Rattle.core_views.specs.Held.{Held, answered, next_line, progress_of, state_of}
 use Rattle.mmu_core.specs.declared.log_next.LogNext.{LogNext}
@@ -16,9 +17,15 @@ use Rattle.mmu_core.specs.declared.log_next.LogNext.TheVariants as next
 use Rattle.mmu_core.specs.lines.Delays.{counted, delays_counted, line_waits, steps_counted}
 use Rattle.mmu_core.specs.forms.log.LogOutcomes.{after_log, harvest_after}
 use Rattle.mmu_core.specs.forms.log.LogSteps.{log_next, log_reads}
+use Rattle.mmu_core.specs.lines.Forms.{reads_at}
 use Rattle.mmu_core.specs.machine.Outcomes.{answers_after, place_after}
 use Rattle.mmu_core.specs.machine.Steps.{line_after}
 use Rattle.mmu_steps.proofs.LineMade.{line_ends}
+
+-- What was read stays where the line reads no log.
+pub reads_same : (p : Place) (command : Command) (h : Held) (v : ℕ) → ((q : LogPlace) → p ≢ place.Log q) → reads_at p command h v ≡ h.harvest
+reads_same (place.Log p) command h v other = absurd (other p refl)
+reads_same _ command h v other = refl
 
 -- The hand with its line at this place, which uses this translation and has counted so many steps and delays.
 abbrev pub stands_at : Held → Place → Translation → ℕ → ℕ → Held

@@ -10,7 +10,8 @@ use Rattle.mmu_core.specs.machine.Outcomes.{answers_after, place_after}
 use Rattle.mmu_core.specs.machine.Steps.{line_after}
 use Rattle.mmu_core.proofs.lines.Forms.{outcome_goes}
 use Rattle.mmu_core.proofs.machine.GoesOn.{GoesUnderWay}
-use Rattle.mmu_steps.proofs.LineMade.{delay_is, line_ends, line_goes, line_made, loads_none, reads_same, recorded_is}
+use Rattle.mmu_steps.proofs.LineMade.{delay_is, line_ends, line_goes, line_made, loads_none, recorded_is}
+use Rattle.mmu_steps.proofs.forms.log.LogMade.{reads_same}
 use Rattle.mmu_steps.proofs.step.advance_line.Goals as goal
 
 pub returns-in-Goes-clause-core : goal.returns-in-Goes-clause-core

@@ -13,11 +13,10 @@ use Rattle.core_views.specs.declared.sizes.Sizes.{Sizes}
 use Rattle.core_views.specs.declared.topics.Hold.TheVariants.{Loose}
 use Rattle.core_views.specs.declared.topics.Topics.{Topics}
 use Rattle.core_views.specs.declared.trace.Command.{Command}
-use Rattle.core_views.specs.declared.trace.Command.TheVariants.{Access, ChangeHost, ChangeRun, ClearLog, GetLog, Split}
+use Rattle.core_views.specs.declared.trace.Command.TheVariants.{Access}
 use Rattle.core_views.specs.declared.trace.Slot.{Slot}
 use Rattle.core_views.specs.Held.{Held}
 use Rattle.core_views.specs.LogCommands.{log_read, takes_out}
-use Rattle.core_views.specs.SlotCommands.{changes_slot}
 use Rattle.core_views.specs.Sizes.{actors_of, index_of}
 use Rattle.spte_words.specs.declared.area.Area.TheVariants as area
 use Rattle.spte_words.specs.declared.spte_kind.SpteKind.TheVariants.{Leaf}
@@ -46,12 +45,14 @@ use Rattle.mmu_core.specs.machine.Steps.{place_at}
 use Rattle.mmu_core.specs.machine.Turns.{line_of}
 use Rattle.mmu_core.specs.machine.View.{view, word_in}
 use Rattle.mmu_core.specs.alone.Leads.{LeadsTo}
+use Rattle.mmu_core.proofs.lines.Forms.{knows_for}
 use Rattle.mmu_core.proofs.forms.access.FaultSame.{both}
 use Rattle.mmu_core.proofs.forms.log.LogMakes.{log_is_managers}
 use Rattle.mmu_core.proofs.machine.LineRuns.{legal_one_more}
 use Rattle.mmu_core.proofs.machine.PartStepping.{behind_part}
 use Rattle.mmu_core.proofs.pages.NoneBelow.{over_frame}
 use Rattle.mmu_core.proofs.pages.Standing.{spot_of}
+use Rattle.mmu_laws.proofs.forms.log.ReadsNot.{reads_not}
 use Rattle.mmu_laws.proofs.flat.BeginningsKept.{beginning_is}
 use Rattle.mmu_laws.proofs.forms.log.ReadSlots.{taken_is}
 use Rattle.mmu_laws.proofs.leaves.LeafLaws.{from_root}
@@ -89,24 +90,11 @@ log_ends log.Await c h v words t K out e is = by (has_to_flush v) refl (nat_lt (
 log_ends (log.Peek begun) c h v words t K out e is = absurd (let not_ = K.2 in cc (not_, out))
 log_ends _ c h v words t K out e is = absurd (cc e)
 
-no_reading : (c : Command) → changes_slot c ≡ true → is_some (log_read c) ≡ true → ⊥
-no_reading (GetLog id) is reads = cc is
-no_reading (ClearLog id first count words) is reads = cc is
-no_reading _ is reads = cc reads
-
 reading_ends : (p : Place) (c : Command) (h : Held) (v : ℕ) (words : List ℕ) (t : Topics) → KnowsPart p c h → is_some (log_read c) ≡ true
     → takes_out h.state.sizes.mode c ≡ true → outcome_at p c h v ≡ Ends (Bits words) → t ≡ behind_part (part_at p c h) h.topics v → IsFlushedBy h v t
 reading_ends (place.Log q) c h v words t K reads out e is = log_ends q c h v words t K out e is
-reading_ends (place.SlotChange q) c h v words t K reads out e is = absurd (no_reading c K.0 reads)
-reading_ends (place.Access q) (Access gfn word op) h v words t K reads out e is = absurd (cc reads)
-reading_ends (place.Access q) _ h v words t K reads out e is = absurd K
-reading_ends (place.Host q) (ChangeHost page change) h v words t K reads out e is = absurd (cc reads)
-reading_ends (place.Host q) _ h v words t K reads out e is = absurd K
-reading_ends (place.HostRun q) (ChangeRun page change) h v words t K reads out e is = absurd (cc reads)
-reading_ends (place.HostRun q) _ h v words t K reads out e is = absurd K
-reading_ends (place.Split q) (Split gfn) h v words t K reads out e is = absurd (cc reads)
-reading_ends (place.Split q) _ h v words t K reads out e is = absurd K
-reading_ends _ c h v words t K reads out e is = absurd (cc e)
+reading_ends place.Between c h v words t K reads out e is = absurd (cc e)
+reading_ends p c h v words t K reads out e is = absurd (let none = reads_not p c h (knows_for p c h tt K) refl in cc (none, reads))
 
 reading_form : (c : Command) → is_some (log_read c) ≡ true → is_access c ≡ false
 reading_form (Access gfn word op) is = absurd (cc is)
