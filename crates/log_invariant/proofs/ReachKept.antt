@@ -1,5 +1,5 @@
 -- Each leaf that allows writes in a slot with a dirty log, and to which a virtual processor can come in the guest, is guarded after each step.
-use Rattle.std.proofs.Common.{ap, arith, inl, inr, refl, subst, sym, ℕ, ◌<◌, ◌≡◌}
+use Rattle.std.proofs.Common.{ap, arith, inl, inr, refl, subst, sym, ℕ, ◌<◌, ◌≡◌, ◌∙◌}
 use Rattle.std.specs.Prelude.{Option, Some, false, true}
 use Rattle.core_views.specs.declared.place.LogPlace.TheVariants as log
 use Rattle.core_views.specs.declared.place.Place.TheVariants as place
@@ -41,8 +41,9 @@ use Rattle.log_invariant.proofs.LeavesKept.{idle_new}
 use Rattle.log_invariant.proofs.LogsBegun.{AllSetNow}
 use Rattle.log_invariant.proofs.OwnExcuse.{PassesAt}
 use Rattle.log_invariant.proofs.ReachClaims.{GoesOnInReach, ReachIs, WasThere, task_reach}
-use Rattle.log_invariant.proofs.StepPlaces.{Makes, is_special, is_usual, step_at, usual_at}
+use Rattle.log_invariant.proofs.StepPlaces.{Makes, step_at}
 use Rattle.log_invariant.proofs.TranslationsKept.{guarded_by}
+use Rattle.log_invariant.proofs.UsualSteps.{is_special, is_usual, special_by, usual_by}
 use Rattle.log_invariant.proofs.forms.slot_change.UsesExcused.{allowed_used}
 
 -- A leaf in reach is guarded as what the virtual processor has cached is.
@@ -111,7 +112,7 @@ module _ (z : Sizes) (v : View) (a : ℕ) (line : Line) (command : Command) (p :
       by : (x : Held) → ExcusedOrPassed p command h g.topics.walk x gfn → ExcusesCached k (w.words area.State k) x gfn
       by x (inl excuse) = allowed_used x.state.place k (w.words area.State k) x.state.line.command x gfn excuse
       by x (inr passes) =
-          let usual = usual_at p command h step (passes_usual p command h g.topics.walk gfn passes) is in
+          let usual : is_special step ≡ false = sym (ap special_by is) ∙ usual_by p command h (passes_usual p command h g.topics.walk gfn passes) in
           absurd (cc (usual, special))
 
   new_uses : (step : PartStep) → part_at p command h ≡ Some step → (k : ℕ) → OfNewWrites step h.topics v (ReachGuarded z w k)
