@@ -38,7 +38,7 @@ fn step(stage: CheckStage) -> PartStep
 
 /// A check under the lock whether a look-up of one guest frame still holds, a
 /// step a turn (`mmu_invalidate_retry_gfn`).
-#[derive(Clone, Copy, PartialEq, Eq, Drop)]
+#[derive(Clone, Copy, Drop)]
 pub struct Check {
     /// The guest frame.
     pub gfn: u64,
