@@ -214,7 +214,7 @@ impl BeginJob {
         };
         match self.step(s, place, note) {
             Some(seen) => Turn::Wait(seen),
-            None if place == BeginPlace::Release => Turn::Done(()),
+            None if matches!(place, BeginPlace::Release) => Turn::Done(()),
             None => Turn::More,
         }
     }

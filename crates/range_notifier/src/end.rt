@@ -72,7 +72,7 @@ impl EndJob {
         };
         match step(s, place, note) {
             Some(seen) => Turn::Wait(seen),
-            None if place == EndPlace::Release => Turn::Done(()),
+            None if matches!(place, EndPlace::Release) => Turn::Done(()),
             None => Turn::More,
         }
     }
