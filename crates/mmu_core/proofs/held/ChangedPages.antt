@@ -15,7 +15,7 @@ use Rattle.mmu_core.proofs.held.OwnPages.{one_place_owns, owner_within}
 use Rattle.mmu_core.proofs.held.PageRuns.{one_alone}
 use Rattle.mmu_core.proofs.machine.Columns.{same_or}
 use Rattle.mmu_core.proofs.words.HostStays.{put_low}
-use Rattle.mmu_core.proofs.words.RunSpans.{in_wider, on_run, one_span}
+use Rattle.mmu_core.proofs.words.RunSpans.{as_far, begins_narrower, in_wider, on_run, one_span}
 use Rattle.mmu_core.specs.invariant.HostWordsPart.{owns_page}
 use Rattle.std.proofs.Math.Nat.{mod-le}
 
@@ -102,12 +102,13 @@ module _ (z : Sizes) (sizes : AreSizes z) (a : ℕ) (host : ℕ → ℕ) (run : 
           let top : run.level ≤ 4 = omega (arith, most) in
           let too : IsOnRun other (Some run) =
           in_wider level run.level other page from (let own = L.0 in omega (arith, put, large, own)) top in_run ∙ on in
-          let at_start : run_start run ≡ run.first = (let none = C.begins L.1 in omega (arith, none)) in
+          let at_start : run_start run ≡ run.first = (let none = (C.begins L.1).0 in omega (arith, none)) in
           let low : run.first ≤ page = (let le = (on_run run page (omega (arith, several)) top on).0 in omega (arith, at_start, le)) in
           let low_too : run.first ≤ other = (let le = (on_run run other (omega (arith, several)) top too).0 in omega (arith, at_start, le)) in
           let here = frame_given page on ∙ row_frame run.word run.first page low in
           let there_too = frame_given other too ∙ row_frame run.word run.first other low_too in
-          let places = (one_span level from (let own = L.0 in omega (arith, put, large, own, top)) page other in_run) in (
+          let within : level ≤ run.level = (let own = L.0 in omega (arith, put, large, own)) in
+          let places = (one_span level from (omega (arith, within, top)) page other in_run) in (
             owner_within z sizes a other (O.owns other too),
             record {
               same_level = level_given other too ∙ sym put;
@@ -115,6 +116,10 @@ module _ (z : Sizes) (sizes : AreSizes z) (a : ℕ) (host : ℕ → ℕ) (run : 
                   ∙ sym (writes_given page on ∙ row_writes run.word run.first page low);
               frames = apart (host_frame (host other)) (host_frame (host page)) (host_frame run.word) places.2 there_too here low low_too;
               present = λ several. present_given other too ∙ C.present other too;
+              in_place = λ several. ap (λ n. n % level_span level) here
+                  ∙ as_far level from (omega (arith, within, top)) run.first page (host_frame run.word) low
+                  (begins_narrower level run.level run.first from within top (C.begins L.1).0)
+                  (begins_narrower level run.level (host_frame run.word) from within top (C.begins L.1).1);
             },
             owned_by page other on too,
           )

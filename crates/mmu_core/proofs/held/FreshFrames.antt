@@ -120,6 +120,7 @@ leaf_same pool host set page word level gfn leaf L same = record {
   first = L.first;
   is = L.is ∙ ap (leaf_at level L.first L.writes L.slot) (sym stays);
   frame = ap host_frame stays ∙ L.frame;
+  in_place = L.in_place;
   present = ap host_present stays ∙ L.present;
   small = subst (λ w. host_frame w < 2 ^ 40) (sym stays) L.small;
 }

@@ -65,7 +65,8 @@ module _ (z : Sizes) (v : View) (a count : ℕ) (S : IsPart z v a (part.SetCount
       → (1 ≤ level_looked look t.row) × (level_looked look t.row ≤ 3)
       → ((page : ℕ) → IsOnRun page (Some run) → (host page ≡ word_in_row look.word look.page page) × (host_level (host page) ≤ level_looked look t.row)
       × (2 ≤ level_looked look t.row → host_present (host page) ≡ true))
-      → (host_level look.word ≡ 1 → look.page % level_span (level_looked look t.row) ≡ 0) → IsOpened
+      → (host_level look.word ≡ 1
+      → (look.page % level_span (level_looked look t.row) ≡ 0) × (host_frame look.word % level_span (level_looked look t.row) ≡ 0)) → IsOpened
   of_several told bounds words begins = record {
     own_pages = record {
       level = subst (λ (r : PageRun). (1 ≤ r.level) × (r.level ≤ 3)) (sym told) bounds;
@@ -77,7 +78,9 @@ module _ (z : Sizes) (v : View) (a count : ℕ) (S : IsPart z v a (part.SetCount
       present = λ page on.
           ap host_present (sym (seen page) ∙ sym (words page on).0)
           ∙ (words page on).2 (subst (λ (r : PageRun). 2 ≤ r.level) told several);
-      begins = subst (λ (r : PageRun). host_level r.word ≡ 1 → r.first % level_span r.level ≡ 0) (sym told) begins;
+      begins =
+          subst (λ (r : PageRun). host_level r.word ≡ 1 → (r.first % level_span r.level ≡ 0) × (host_frame r.word % level_span r.level ≡ 0)) (sym told)
+          begins;
       words = λ page on. (words page on).0 ∙ (seen page ∙ sym (unchanged page on several));
     };
   }
@@ -133,7 +136,7 @@ module _ (z : Sizes) (v : View) (a count : ℕ) (S : IsPart z v a (part.SetCount
 
   of_row : (level : ℕ) → 2 ≤ level → level ≤ 3 → host_level look.word ≤ 1 → IsWholeRow level look t.row → level_looked look t.row ≡ level → IsOpened
   of_row level from to small W told = of_several (several_told several) (omega (arith, told, from), omega (arith, told, to)) words
-      (λ one. subst (λ l. look.page % level_span l ≡ 0) (sym told) W.begins)
+      (λ one. subst (λ l. (look.page % level_span l ≡ 0) × (host_frame look.word % level_span l ≡ 0)) (sym told) (W.begins, W.frame_begins))
     where
       several : 1 < level_looked look t.row
       several = omega (arith, told, from)

@@ -57,7 +57,13 @@ on_run_prop page (Some run) = hlevel props
 
 -- A page is mapped as it is itself.
 pub alone_alike : (level : ℕ) (host : ℕ → ℕ) (page : ℕ) → level ≤ 1 → IsOneRun level host page page
-alone_alike level host page to = record { same_level = refl; writes = refl; frames = refl; present = λ more. absurd (omega (arith, to, more)) }
+alone_alike level host page to = record {
+  same_level = refl;
+  writes = refl;
+  frames = refl;
+  present = λ more. absurd (omega (arith, to, more));
+  in_place = λ more. absurd (omega (arith, to, more));
+}
 
 -- So is a run of one page, which its owner owns.
 pub one_alone : (z : Sizes) (level page other : ℕ) (host : ℕ → ℕ) → page < z.pages → 1 ≤ level → level ≤ 1 → IsInRun level page other

@@ -103,6 +103,7 @@ pub record IsWholeRow (level : ℕ) (look : HostLook) (row : HostRow) : Type 0 w
   pub present : host_present look.word ≡ true
   pub looked : row.looked ≡ level_span level
   pub begins : look.page % level_span level ≡ 0
+  pub frame_begins : host_frame look.word % level_span level ≡ 0
 
 pub whole_row : (level : ℕ) (look : HostLook) (row : HostRow) → makes_run level look row ≡ true → IsWholeRow level look row
 whole_row level look row is =
@@ -115,6 +116,7 @@ whole_row level look row is =
       present = three.0;
       looked = (let e = three.1 in grind (arith, nat_tests));
       begins = (let e = four.0 in grind (arith, nat_tests));
+      frame_begins = (let e = four.1 in grind (arith, nat_tests));
     }
 
 -- Each of its pages has the word of the row.

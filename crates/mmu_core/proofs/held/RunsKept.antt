@@ -37,6 +37,7 @@ still_run level host after page other here there R = record {
       ap (λ n. n + page % level_span level) (still_frame (host other) (after other) there) ∙ R.frames
       ∙ ap (λ n. n + other % level_span level) (sym (still_frame (host page) (after page) here));
   present = λ more. still_there (host other) (after other) there (R.present more);
+  in_place = λ more. ap (λ n. n % level_span level) (still_frame (host page) (after page) here) ∙ R.in_place more;
 }
 
 module _ (z : Sizes) (v : View) (a : ℕ) (step : PartStep) (note : ℕ) (S : IsPart z v a step) where

@@ -38,7 +38,7 @@ use Rattle.mmu_core.proofs.held.FlushedCaches.{KeepsClean, both_flushed}
 use Rattle.mmu_core.proofs.held.FreshFrames.{leaf_brought, leaf_elsewhere}
 use Rattle.mmu_core.proofs.machine.Columns.{at_upd, same_or, upd_other, upd_same}
 use Rattle.mmu_core.proofs.machine.PartStepping.{IsFlushedOut, IsPart, flushed_within}
-use Rattle.mmu_core.proofs.slots.LiveStay.{translations_stay}
+use Rattle.mmu_core.proofs.slots.LiveStay.{leaf_lives, translations_stay}
 use Rattle.mmu_core.proofs.slots.LiveStays.{live_in_stays, part_live_stays}
 use Rattle.part_steps.specs.InvalidationRange.{IsOnRun}
 use Rattle.mmu_core.proofs.held.PageRuns.{on_it}
@@ -67,19 +67,8 @@ agree_published : (pool host : ℕ → ℕ) (vcpus set page : ℕ) (t : Topics) 
     → (t.invalidations.opened ≡ true → vcpus ≤ t.flush.asked → vcpus ≤ t.flush.awaited → IsClean t.invalidations.own cached)
     → AgreePart pool host set cached → AgreePart pool host page cached
 agree_published pool host vcpus set page t cached stay clean agrees k d lt gfn over =
-    let L = agrees k d lt gfn over in record {
-      id = L.id;
-      slot = L.slot;
-      live = by L.slot (stay L.id L.slot L.live) L.holds;
-      holds = L.holds;
-      writes = L.writes;
-      run = L.run;
-      first = L.first;
-      is = L.is;
-      frame = L.frame;
-      present = L.present;
-      small = L.small;
-    }
+    let L = agrees k d lt gfn over in
+    leaf_lives pool host set _ gfn _ L pool page (by L.slot (stay L.id L.slot L.live) L.holds)
   where
     by : {id : ℕ} (slot : SlotOf) → IsLiveIn pool page id slot ⊎ IsFlushedOut vcpus slot t → contains gfn slot ≡ true → IsLiveIn pool page id slot
     by slot (inl same) holds = same

@@ -21,7 +21,7 @@ use Rattle.mmu_core.specs.machine.View.{View, part_stepped, upd}
 use Rattle.mmu_core.proofs.pages.AllOver.{IsLight, over_weaker}
 use Rattle.mmu_core.proofs.pages.OverSteps.{OfNewLeaf, over_step}
 use Rattle.mmu_core.proofs.pages.SplitLeaves.{leaves_inherited}
-use Rattle.mmu_core.proofs.slots.LiveStay.{StayLive, leaf_stays}
+use Rattle.mmu_core.proofs.slots.LiveStay.{StayLive, leaf_lives, leaf_stays}
 use Rattle.mmu_core.proofs.slots.LiveStays.{live_in_stays, part_live_stays}
 use Rattle.mmu_core.proofs.machine.PartStepping.{IsFlushedOut, IsPart, changes_word, flushed_within, is_publish}
 use Rattle.mmu_core.proofs.words.HostFrames.{first_small}
@@ -72,6 +72,7 @@ fixed_leaf pool host set level gfn leaf fixable L = record {
       ap with_write L.is ∙ leaf_with_write level L.first (L.writes && may_write L.slot word) (host_allows_write word) (may_write L.slot word)
       ∙ ap (λ (b : Bool). leaf_word level L.first b (host_allows_write word) (may_write L.slot word)) (sym may);
   frame = L.frame;
+  in_place = L.in_place;
   present = L.present;
   small = L.small;
 }
@@ -103,6 +104,7 @@ left_leaf_for pool host set level gfn leaf L = record {
       ap without_write L.is
       ∙ leaf_without_write level L.first (L.writes && may_write L.slot word) (host_allows_write word) (may_write L.slot word);
   frame = L.frame;
+  in_place = L.in_place;
   present = L.present;
   small = L.small;
 }
@@ -176,19 +178,8 @@ module _ (z : Sizes) (v : View) (a : ℕ) (I : TopicsInvariant z v) (m : ℕ) (t
           (v.words area.Pool (pool_index table entry)))
           → IsLiveIn (v.words area.Pool) page L.id L.slot ⊎ IsFlushedOut z.vcpus L.slot (v.hand a).topics
           → IsLeafFor (v.words area.Pool) (v.words area.Host) page (I.spot table).level gfn (v.words area.Pool (pool_index table entry))
-      stays table entry gfn R O leaf L (inl same) = record {
-        id = L.id;
-        slot = L.slot;
-        live = same;
-        holds = L.holds;
-        run = L.run;
-        writes = L.writes;
-        first = L.first;
-        is = L.is;
-        frame = L.frame;
-        present = L.present;
-        small = L.small;
-      }
+      stays table entry gfn R O leaf L (inl same) =
+          leaf_lives (v.words area.Pool) (v.words area.Host) (v.words area.Slots 0) (I.spot table).level gfn _ L (v.words area.Pool) page same
       stays table entry gfn R O leaf L (inr F) =
           absurd (emptied F.opened F.asked F.awaited table entry gfn R O (flushed_within z.vcpus gfn L.slot (v.hand a).topics F L.holds) leaf)
 

@@ -31,7 +31,7 @@ use Rattle.mmu_core.proofs.held.KeptEmpty.{empty_open, empty_slot}
 use Rattle.mmu_core.proofs.held.FreshFrames.{behind_it, found_live, fresh_in_none, looked_word}
 use Rattle.mmu_core.proofs.held.WalkSpans.{one_frame}
 use Rattle.mmu_core.proofs.words.RunPlaces.{begins_run, between, given_back, holds_between, run_begins, run_of_other, run_places}
-use Rattle.mmu_core.proofs.words.RunSpans.{between_spans, in_wider}
+use Rattle.mmu_core.proofs.words.RunSpans.{begins_lowest, begins_whole, between_spans, in_wider}
 
 -- ---- a fresh look-up of one guest frame of the run
 
@@ -178,6 +178,7 @@ module _ (z : Sizes) (v : View) (a level gfn : ℕ) (there : a < actors_of z) (I
     first = first;
     is = ap (leaf_at level first writes slot) looked ∙ ap by_writes (sym A.writes);
     frame = frame;
+    in_place = by_place (cases_lt 1 level);
     present = by_level (cases_lt 1 level);
     small = omega (arith, (I.hosts (page_of slot other) (alike (page_of slot other) P.2).0).1, sizes.frames.1);
   }
@@ -203,6 +204,12 @@ module _ (z : Sizes) (v : View) (a level gfn : ℕ) (there : a < actors_of z) (I
       by_level (inl above) = A.present (omega (arith, above))
       by_level (inr lowest) =
           ap (λ n. host_present (v.words area.Host n)) (one_frame level (page_of slot other) page (omega (arith, from, lowest)) P.2) ∙ present
+
+      by_place : (1 < level) ⊎ (level ≤ 1) → first % level_span level ≡ 0
+      by_place (inr lowest) = begins_lowest level first (omega (arith, from, lowest))
+      by_place (inl above) =
+          begins_whole level from most (host_frame (word_looked t.host)) gfn
+          (ap (λ w. host_frame w % level_span level) looked ∙ (alike page refl).1.in_place (omega (arith, above)) ∙ run.alike)
 
       frame : host_frame (v.words area.Host (page_of slot other)) ≡ first + other % level_span level
       frame = by (begins_run level from most page)

@@ -46,6 +46,22 @@ child_run level gfn slot upper most R =
     (subst (λ s. page_of slot gfn % s ≡ gfn % s) span R.alike) in
     record { from = less.0; to = less.1; alike = less.2 }
 
+-- Its first frame begins a span, as the leaf's does.
+abbrev HasMultiples : ℕ → Type 0
+HasMultiples s = (first i : ℕ) → first % (512 * s) ≡ 0 → (first + i * s) % s ≡ 0
+
+has_multiples : (level : ℕ) → 1 ≤ level → level ≤ 4 → HasMultiples (level_span level)
+has_multiples =
+    each_span HasMultiples (λ first i is. omega (arith, is)) (λ first i is. omega (arith, is)) (λ first i is. omega (arith, is))
+    (λ first i is. omega (arith, is))
+
+child_place : (level first i : ℕ) → 2 ≤ level → level ≤ 4 → first % level_span level ≡ 0
+    → (first + i * level_span (level - 1)) % level_span (level - 1) ≡ 0
+child_place level first i upper most is =
+    let span : level_span level ≡ 512 * level_span (level - 1) =
+    ap level_span (let up : level ≡ level - 1 + 1 = omega (arith, upper) in up) ∙ span_above (level - 1) (omega (arith, upper)) in
+    has_multiples (level - 1) (omega (arith, upper)) (omega (arith, most)) first i (subst (λ s. first % s ≡ 0) span is)
+
 -- The child of a leaf that slots and host give is one that they give.
 pub child_leaf : (pool host : ℕ → ℕ) (set level gfn leaf : ℕ) → 2 ≤ level → level ≤ 4 → IsLeafFor pool host set level gfn leaf
     → IsLeafFor pool host set (level - 1) gfn (child_over level leaf gfn)
@@ -62,6 +78,7 @@ child_leaf pool host set level gfn leaf upper most L = record {
       ∙ child_of_leaf level L.first i (L.writes && may_write L.slot word) (host_allows_write word) (may_write L.slot word)
       (first_small pool host set level gfn leaf L);
   frame = L.frame ∙ (let place = place_in_child level gfn upper most in omega (arith, place));
+  in_place = child_place level L.first i upper most L.in_place;
   present = L.present;
   small = L.small;
 }

@@ -12,6 +12,24 @@ use Rattle.mmu_core.specs.invariant.SlotSetPart.{AreSlots, Fits}
 use Rattle.part_steps.specs.SlotWords.{live_at, slot_at}
 use Rattle.mmu_core.specs.invariant.CachedPart.{AgreePart, IsTranslationFor}
 
+-- A leaf that one slot set gives is one that another gives, in which its slot is live, too.
+pub leaf_lives : (before host : ℕ → ℕ) (set level gfn leaf : ℕ) (L : IsLeafFor before host set level gfn leaf) (after : ℕ → ℕ) (other : ℕ)
+    → IsLiveIn after other L.id L.slot → IsLeafFor after host other level gfn leaf
+leaf_lives before host set level gfn leaf L after other live = record {
+  id = L.id;
+  slot = L.slot;
+  live = live;
+  holds = L.holds;
+  run = L.run;
+  writes = L.writes;
+  first = L.first;
+  is = L.is;
+  frame = L.frame;
+  in_place = L.in_place;
+  present = L.present;
+  small = L.small;
+}
+
 -- Each slot that is live in one slot set is live in another one, and the same.
 abbrev pub StayLive : (ℕ → ℕ) → ℕ → (ℕ → ℕ) → ℕ → Type 0
 StayLive before set after other = (id : ℕ) (slot : SlotOf) → IsLiveIn before set id slot → IsLiveIn after other id slot
@@ -24,19 +42,7 @@ module _ (before : ℕ → ℕ) (set : ℕ) (after : ℕ → ℕ) (other : ℕ) 
   slot_stays id low live = (stay id (slot_at before set id) (record { low = low; live = live; is = refl })).is
 
   pub leaf_stays : (host : ℕ → ℕ) (level gfn leaf : ℕ) → IsLeafFor before host set level gfn leaf → IsLeafFor after host other level gfn leaf
-  leaf_stays host level gfn leaf L = record {
-    id = L.id;
-    slot = L.slot;
-    live = stay L.id L.slot L.live;
-    holds = L.holds;
-    run = L.run;
-    writes = L.writes;
-    first = L.first;
-    is = L.is;
-    frame = L.frame;
-    present = L.present;
-    small = L.small;
-  }
+  leaf_stays host level gfn leaf L = leaf_lives before host set level gfn leaf L after other (stay L.id L.slot L.live)
 
   pub translations_stay : (host : ℕ → ℕ) (ts : List Translation) → AgreePart before host set ts → AgreePart after host other ts
   translations_stay host ts each =

@@ -41,6 +41,48 @@ between_spans =
     each_span Between (λ low high n is from to. omega (arith, is, from, to)) (λ low high n is from to. omega (arith, is, from, to))
     (λ low high n is from to. omega (arith, is, from, to)) (λ low high n is from to. omega (arith, is, from, to))
 
+-- What begins a span begins one of each level below.
+abbrev BeginsLess : ℕ → Type 0
+BeginsLess s = (n : ℕ) → n % (512 * s) ≡ 0 → n % s ≡ 0
+
+begins_less : (level : ℕ) → 1 ≤ level → level ≤ 4 → BeginsLess (level_span level)
+begins_less = each_span BeginsLess (λ n is. omega (arith, is)) (λ n is. omega (arith, is)) (λ n is. omega (arith, is)) (λ n is. omega (arith, is))
+
+begins_below : (more level n : ℕ) → 1 ≤ level → level + more ≤ 4 → n % level_span (level + more) ≡ 0 → n % level_span level ≡ 0
+begins_below zero level n from most is = subst (λ l. n % level_span l ≡ 0) (let none : level + 0 ≡ level = omega arith in none) is
+begins_below (suc more) level n from most is =
+    begins_less level from (omega (arith, most)) n
+    (subst (λ s. n % s ≡ 0) (span_above level from)
+    (begins_below more (level + 1) n (omega arith) (omega (arith, most))
+    (subst (λ l. n % level_span l ≡ 0) (let up : level + suc more ≡ level + 1 + more = omega arith in up) is)))
+
+pub begins_narrower : (level wide n : ℕ) → 1 ≤ level → level ≤ wide → wide ≤ 4 → n % level_span wide ≡ 0 → n % level_span level ≡ 0
+begins_narrower level wide n from within most is =
+    let whole : wide ≡ level + (wide - level) = omega (arith, within) in
+    begins_below (wide - level) level n from (omega (arith, within, most)) (subst (λ l. n % level_span l ≡ 0) whole is)
+
+-- Each number begins a span of the lowest level.
+pub begins_lowest : (level n : ℕ) → level ≡ 1 → n % level_span level ≡ 0
+begins_lowest level n lowest = subst (λ s. n % s ≡ 0) (sym (ap level_span lowest ∙ span_1)) (omega arith)
+
+-- A number less what another one is into its span, and it is as far into its own, begins one.
+abbrev BeginsWhole : ℕ → Type 0
+BeginsWhole s = (n other : ℕ) → n % s ≡ other % s → (n - other % s) % s ≡ 0
+
+pub begins_whole : (level : ℕ) → 1 ≤ level → level ≤ 4 → BeginsWhole (level_span level)
+begins_whole =
+    each_span BeginsWhole (λ n other is. omega (arith, is)) (λ n other is. omega (arith, is)) (λ n other is. omega (arith, is))
+    (λ n other is. omega (arith, is))
+
+-- As far after the begin of a span as a page after that of another one is, a frame is as far into its span.
+abbrev AsFar : ℕ → Type 0
+AsFar s = (first page frame : ℕ) → first ≤ page → first % s ≡ 0 → frame % s ≡ 0 → (frame + (page - first)) % s ≡ page % s
+
+pub as_far : (level : ℕ) → 1 ≤ level → level ≤ 4 → AsFar (level_span level)
+as_far =
+    each_span AsFar (λ a b c le one two. omega (arith, le, one, two)) (λ a b c le one two. omega (arith, le, one, two))
+    (λ a b c le one two. omega (arith, le, one, two)) (λ a b c le one two. omega (arith, le, one, two))
+
 -- Two of one span are of one span of each level above.
 abbrev OneUp : ℕ → Type 0
 OneUp s = (a b : ℕ) → a / s ≡ b / s → a / (512 * s) ≡ b / (512 * s)

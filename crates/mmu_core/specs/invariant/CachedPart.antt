@@ -13,8 +13,8 @@ use Rattle.spte_words.specs.Entries.{level_span, mapped_frame}
 use Rattle.spte_words.specs.HostWords.{host_frame, host_present}
 
 -- The word is a leaf of this level, of the page that the published slots, in this page, and the host give the guest frame, with write permission, where they
--- allow it, or without. Its first frame is as far before the page's as the first guest frame of its span is before this one; the page is present, and the slot
--- has the whole span.
+-- allow it, or without. Its first frame is as far before the page's as the first guest frame of its span is before this one, and the first one of a span of
+-- frames; the page is present, and the slot has the whole span.
 pub record IsLeafFor (pool host : ℕ → ℕ) (set level gfn leaf : ℕ) : Type 0 where
   pub id : ℕ
   pub slot : SlotOf
@@ -25,6 +25,7 @@ pub record IsLeafFor (pool host : ℕ → ℕ) (set level gfn leaf : ℕ) : Type
   pub first : ℕ
   pub is : leaf ≡ leaf_at level first writes slot (host (page_of slot gfn))
   pub frame : host_frame (host (page_of slot gfn)) ≡ first + gfn % level_span level
+  pub in_place : first % level_span level ≡ 0
   pub present : host_present (host (page_of slot gfn)) ≡ true
   pub small : host_frame (host (page_of slot gfn)) < 2 ^ 40
 

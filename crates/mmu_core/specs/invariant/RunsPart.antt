@@ -20,12 +20,14 @@ abbrev pub IsInRun : ℕ → ℕ → ℕ → Type 0
 IsInRun level n other = other / level_span level ≡ n / level_span level
 
 -- Another page of the run is mapped at the same level as this one, with writes where this one allows them, and at a frame as far from this one's as the pages
--- are from one another; and it is present, where the run has more than one page.
+-- are from one another; and where the run has more than one page, it is present, and the frames are a run of this level, too: page and frame are as far into
+-- theirs.
 pub record IsOneRun (level : ℕ) (host : ℕ → ℕ) (page other : ℕ) : Type 0 where
   pub same_level : host_level (host other) ≡ host_level (host page)
   pub writes : host_allows_write (host other) ≡ host_allows_write (host page)
   pub frames : host_frame (host other) + page % level_span level ≡ host_frame (host page) + other % level_span level
   pub present : 2 ≤ level → host_present (host other) ≡ true
+  pub in_place : 2 ≤ level → host_frame (host page) % level_span level ≡ page % level_span level
 
 -- The owner of a page owns another one too.
 abbrev pub HasOwnerOf : Sizes → ℕ → ℕ → Type 0
@@ -49,11 +51,11 @@ OwnPagesPart z n host topics =
     (i : ℕ) (run : PageRun) → i < n → (topics i).invalidations.opened ≡ true → (topics i).invalidations.own.pages ≡ Some run → IsOfOwnPages z host i run
 
 -- Until the sequence number is raised for it, the pages of a run of several are changed in their order: those that are have the word that is given to them, and
--- the others the one that was seen. They are present; and small ones were looked at from the first one of the run on.
+-- the others the one that was seen. They are present; and small ones were looked at from the first one of the run on, at the first frame of such a run.
 pub record IsChanging (host : ℕ → ℕ) (run : PageRun) : Type 0 where
   pub few : run.changed ≤ level_span run.level
   pub present : (page : ℕ) → IsOnRun page (Some run) → host_present (word_seen run page) ≡ true
-  pub begins : host_level run.word ≡ 1 → run.first % level_span run.level ≡ 0
+  pub begins : host_level run.word ≡ 1 → (run.first % level_span run.level ≡ 0) × (host_frame run.word % level_span run.level ≡ 0)
   pub words : (page : ℕ) → IsOnRun page (Some run) → host page ≡ (if nat_lt page (page_next run) then word_given run page else word_seen run page)
 
 abbrev pub ChangesPart : ℕ → (ℕ → ℕ) → (ℕ → Topics) → Type 0

@@ -17,9 +17,9 @@ use Rattle.core_views.specs.Slots.{contains, is_write, page_in, slot_of}
 use Rattle.spte_words.specs.declared.area.Area.TheVariants as area
 use Rattle.spte_words.specs.declared.spte_kind.SpteKind.TheVariants as entry_kind
 use Rattle.spte_words.specs.Areas.{pool_index}
-use Rattle.spte_words.specs.Entries.{can_write, host_writable, kind_of, level_span, mapped_frame, mmu_writable}
+use Rattle.spte_words.specs.Entries.{can_write, frame_in, host_writable, kind_of, leaf_word, level_span, mapped_frame, mmu_writable}
 use Rattle.spte_words.specs.HostWords.{host_allows_write}
-use Rattle.spte_words.proofs.ReadsEntries.{leaf_can_write, leaf_host_writable, leaf_mmu_writable}
+use Rattle.spte_words.proofs.ReadsEntries.{leaf_can_write, leaf_frame, leaf_host_writable, leaf_mmu_writable}
 use Rattle.spte_words.proofs.ProtectedEntries.{leaf_level}
 use Rattle.spte_words.proofs.Spans.{span_4}
 use Rattle.mmu_core.specs.machine.Enabled.{mmu}
@@ -110,11 +110,12 @@ leaf_says pool host set level gfn leaf L = record {
   live = L.live;
   holds = L.holds;
   run = L.run;
+  word = L.is ∙ leaf_from (sym frame_is) (sym writes_are) (sym host_is) (sym mmu_is);
   frame = sym (leaf_maps pool host set level gfn leaf L);
-  writes = λ is. (both L.writes (may_write slot word)
-      (sym (ap can_write L.is ∙ leaf_can_write level L.first allowed (host_allows_write word) (may_write slot word)) ∙ is)).1;
-  host_bit = λ is. sym (ap host_writable L.is ∙ leaf_host_writable level L.first allowed (host_allows_write word) (may_write slot word) small) ∙ is;
-  mmu_bit = λ is. sym (ap mmu_writable L.is ∙ leaf_mmu_writable level L.first allowed (host_allows_write word) (may_write slot word) small) ∙ is;
+  in_place = ap (λ n. n % level_span level) frame_is ∙ L.in_place;
+  writes = λ is. (both L.writes (may_write slot word) (sym writes_are ∙ is)).1;
+  host_bit = λ is. sym host_is ∙ is;
+  mmu_bit = λ is. sym mmu_is ∙ is;
 }
   where
     slot : Slot
@@ -128,6 +129,22 @@ leaf_says pool host set level gfn leaf L = record {
 
     small : L.first < 2 ^ 40
     small = first_small pool host set level gfn leaf L
+
+    frame_is : frame_in leaf ≡ L.first
+    frame_is = ap frame_in L.is ∙ leaf_frame level L.first allowed (host_allows_write word) (may_write slot word) small
+
+    writes_are : can_write leaf ≡ allowed
+    writes_are = ap can_write L.is ∙ leaf_can_write level L.first allowed (host_allows_write word) (may_write slot word)
+
+    host_is : host_writable leaf ≡ host_allows_write word
+    host_is = ap host_writable L.is ∙ leaf_host_writable level L.first allowed (host_allows_write word) (may_write slot word) small
+
+    mmu_is : mmu_writable leaf ≡ may_write slot word
+    mmu_is = ap mmu_writable L.is ∙ leaf_mmu_writable level L.first allowed (host_allows_write word) (may_write slot word) small
+
+    leaf_from : {frame other : ℕ} {w v hw hv mw mv : Bool} → frame ≡ other → w ≡ v → hw ≡ hv → mw ≡ mv
+        → leaf_word level frame w hw mw ≡ leaf_word level other v hv mv
+    leaf_from f w h m = cc (f, w, h, m)
 
 -- All leaves in the tables below the root do, and so do those below any table that the root reaches.
 pub leaves_say : (z : Sizes) (w : World Held) (sound : IsSound z w) (k : ℕ) → HangsBelow sound.topics.up (word_in z w area.Root 0) k
