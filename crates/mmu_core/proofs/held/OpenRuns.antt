@@ -12,7 +12,7 @@ use Rattle.core_views.specs.HostChanges.{is_own}
 use Rattle.core_views.specs.Sizes.{index_of}
 use Rattle.spte_words.specs.declared.area.Area.TheVariants as area
 use Rattle.spte_words.specs.Entries.{level_span}
-use Rattle.spte_words.specs.HostWords.{host_level, host_present}
+use Rattle.spte_words.specs.HostWords.{host_frame, host_level, host_present}
 use Rattle.part_steps.specs.declared.part_step.PartStep.TheVariants as part
 use Rattle.part_steps.specs.InvalidationHoldings.{MayOpen}
 use Rattle.part_steps.specs.InvalidationRange.{run_aimed}
