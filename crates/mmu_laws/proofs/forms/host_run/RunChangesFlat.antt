@@ -53,7 +53,7 @@ use Rattle.mmu_laws.proofs.forms.host.ExchangeFlat.{memory_stays, won_maps}
 use Rattle.mmu_laws.proofs.forms.host.HostEntries.{same_agree}
 use Rattle.mmu_laws.proofs.forms.host_run.RunNotes.{own_among}
 use Rattle.mmu_laws.proofs.forms.host_run.SetRuns.{IsSetRun, set_run}
-use Rattle.mmu_laws.proofs.forms.host_run.SeenRows.{all_looked, seen_own}
+use Rattle.mmu_laws.proofs.forms.host_run.SeenRows.{all_looked, same_level, seen_own}
 use Rattle.mmu_laws.proofs.steps.AllowedWords.{entry_made}
 
 module _ (z : Sizes) (v : View) (a : ℕ) (line : Line) (page : ℕ) (change : RunChange) (facts : Facts) (past : Past) (u : LineUnderWay)
@@ -145,11 +145,10 @@ module _ (z : Sizes) (v : View) (a : ℕ) (line : Line) (page : ℕ) (change : R
     level_1 : maps_large run.word ≡ false → host_level run.word ≡ 1
     level_1 small =
         let least = subst (λ w. 1 ≤ host_level w) word_now (P.hosts run.first own_there).2 in
-        let e : nat_lt 1 (host_level run.word) ≡ false = small in
-        grind (arith, nat_tests)
+        same_level (host_level run.word) 1 least small (omega arith) refl
 
     Q : IsSetRun page change run
-    Q = set_run page change run C (λ small. changing.begins (level_1 small))
+    Q = set_run page change run C (λ small. (changing.begins (level_1 small)).0)
 
     abbrev seen : HostMap
     seen = seen_row run.word page

@@ -114,7 +114,8 @@ further_word : (frame k level : ℕ) (present writable : Bool)
 unfolding host_word
 further_word frame k level present writable = omega arith
 
-same_level : (found level : ℕ) → 1 ≤ found → nat_lt 1 found ≡ false → 1 ≤ level → nat_lt 1 level ≡ false → found ≡ level
+-- Of two levels that are not above the lowest one.
+pub same_level : (found level : ℕ) → 1 ≤ found → nat_lt 1 found ≡ false → 1 ≤ level → nat_lt 1 level ≡ false → found ≡ level
 same_level found level some small some_too small_too = grind (arith, nat_tests)
 
 same_writes : (one other : Bool) → (if one then other else not other) ≡ true → other ≡ one
