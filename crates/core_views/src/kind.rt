@@ -2,7 +2,7 @@ ghost use Rattle.std.specs.Prelude.{◌≡◌};
 ghost use Rattle.core_views.specs.Kinds.{after, answer, code_of, kind_named, operation_of, operation_of_code};
 
 /// The kinds of step that an actor makes, each one atomic operation on one word.
-#[derive(Clone, Copy, Drop)]
+#[derive(Clone, Copy, PartialEq, Eq, Drop)]
 pub enum StepKind {
     /// Enters the guest: swaps the own state word for inside and section.
     Enter,

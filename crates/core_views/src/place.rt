@@ -12,7 +12,7 @@ pub enum Place {
 }
 
 /// A word of a slot in its slot set.
-#[derive(Clone, Copy, Drop)]
+#[derive(Clone, Copy, PartialEq, Eq, Drop)]
 pub enum SlotField {
     Base,
     Pages,
@@ -305,7 +305,7 @@ pub enum FaultEnd {
 }
 
 /// The word that a check of a look-up loads next.
-#[derive(Clone, Copy, Drop)]
+#[derive(Clone, Copy, PartialEq, Eq, Drop)]
 pub enum CheckStage {
     /// How many invalidations are open.
     Count,

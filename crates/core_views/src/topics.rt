@@ -2,7 +2,7 @@ use crate::{Slot, SlotField};
 
 /// Where an actor is, as its own state word tells the others (KVM's
 /// vcpu-requests.rst, "VCPU Mode").
-#[derive(Clone, Copy, Drop)]
+#[derive(Clone, Copy, PartialEq, Eq, Drop)]
 pub enum Stay {
     /// In no section, and not in the guest.
     Outside,
@@ -69,7 +69,7 @@ pub struct HostRow {
 
 /// Which words of the invalidations were loaded under the lock, in the order of
 /// the check.
-#[derive(Clone, Copy, Drop)]
+#[derive(Clone, Copy, PartialEq, Eq, Drop)]
 pub enum Checked {
     /// None, or not in this order.
     Nothing,

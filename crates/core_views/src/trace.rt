@@ -77,7 +77,7 @@ impl Slot {
 /// What a host thread does to one of its pages. It is what KVM's MMU notifiers tell of
 /// (api.rst, `KVM_CAP_SYNC_MMU`: changes in the backing of a slot are reflected into
 /// the guest).
-#[derive(Clone, Copy, Drop)]
+#[derive(Clone, Copy, PartialEq, Eq, Drop)]
 pub enum HostChange {
     /// Copies it to a frame that no page names, and names that.
     Move,
@@ -99,7 +99,7 @@ pub enum RunChange {
 }
 
 /// What a line does to the migration of the guest.
-#[derive(Clone, Copy, Debug, Drop)]
+#[derive(Clone, Copy, PartialEq, Eq, Drop)]
 pub enum MigrationCall {
     /// Starts it: each page of each slot is to be copied.
     Start,
