@@ -1,5 +1,6 @@
-//! Tables of cases, as text. A row is what comes of a case, a `|`, and the case.
-use crate::{item_tests, need_tests, reading_tests, step_tests};
+//! Tables of cases, as text. A row is a case, a `: `, and what comes of it.
+use crate::expected::expect_rows;
+use crate::{log_command_tests, step_tests};
 use std::alloc::Global;
 use std::process::Abort;
 use std::test::Fail;
@@ -7,12 +8,8 @@ use std::test::Fail;
 /// What the cases of a table are.
 #[derive(Clone, Copy, Drop)]
 pub enum Way {
-    /// Inputs of the reader.
-    Reads,
-    /// Inputs with `go` and schedule items.
-    Items,
-    /// Machines and slots, of which comes how many pool pages they need.
-    Needs,
+    /// Lines that read a dirty log.
+    Logs,
     /// Steps, of which comes their line.
     Steps,
 }
@@ -20,9 +17,7 @@ pub enum Way {
 // What comes of a case.
 fn told(alloc: Global, way: Way, case: &str) -> Result<String, Fail> {
     match way {
-        Way::Reads => reading_tests::told(alloc, case),
-        Way::Items => item_tests::told(alloc, case),
-        Way::Needs => need_tests::told(alloc, case),
+        Way::Logs => log_command_tests::told(alloc, case),
         Way::Steps => step_tests::told(alloc, case),
     }
 }
@@ -31,10 +26,10 @@ fn told(alloc: Global, way: Way, case: &str) -> Result<String, Fail> {
 fn first_other(alloc: Global, way: Way, table: &str) -> Result<(usize, String), Fail> {
     let mut count = 0usize;
     for row in table.split('\n') {
-        if let Some((wanted, case)) = row.split_once('|') {
+        if let Some((case, wanted)) = row.split_once(": ") {
             let came = told(alloc, way, case)?;
             if came.as_str() != wanted {
-                return Ok((count, format!(in alloc; "{came}|{case}")?));
+                return Ok((count, format!(in alloc; "{case}: {came}")?));
             }
             count = count.saturating_add(1);
         }
@@ -50,7 +45,5 @@ pub fn expect_all<R: Abort>(
     table: &str,
     count: usize,
 ) -> Result<(), Fail> {
-    let (rows, other) = first_other(alloc, way, table)?;
-    assert_eq!(rt; (rows, other.as_str()), (count, ""));
-    Ok(())
+    expect_rows(rt, first_other(alloc, way, table), count)
 }

@@ -8,21 +8,19 @@ mod answer_tests;
 #[cfg(test)]
 mod cases;
 #[cfg(test)]
-mod expected;
+mod command;
 #[cfg(test)]
-mod expected_rows;
+mod expected;
 #[cfg(test)]
 mod flat_tests;
 #[cfg(test)]
 mod io_tests;
 #[cfg(test)]
-mod item_tests;
+mod kept_tests;
 #[cfg(test)]
 mod log_command_tests;
 #[cfg(test)]
 mod need_tests;
-#[cfg(test)]
-mod reading_tests;
 #[cfg(test)]
 mod rows;
 #[cfg(test)]

@@ -6,28 +6,13 @@
 //!   are, the bits of the first three words that it asks for, how many of the pages 0 to 255 those are, the
 //!   last of them, and how many words it reads of any log at most.
 
-use crate::expected_rows::expect_rows;
-use crate::rows::{numbers, verb};
-use core_views::{Command, LogMode, Sizes, Slot, Words};
+use crate::cases::{Way, expect_all};
+use crate::command::line_of;
+use crate::expected::expect;
+use core_views::{Command, LogMode, Sizes, Slot};
 use hands::SlotSet;
 use std::alloc::Global;
 use std::test::Fail;
-
-// The line's command.
-fn command(alloc: Global, row: &str) -> Result<Command, Fail> {
-    let numbers = numbers(alloc, row)?;
-    match (verb(row), numbers.as_slice()) {
-        ("get", [id]) => Ok(Command::GetLog { id: *id }),
-        ("delete", [id]) => Ok(Command::DeleteSlot { id: *id }),
-        ("clear", [id, first, count, words @ ..]) => Ok(Command::ClearLog {
-            id: *id,
-            first: *first,
-            count: *count,
-            words: Words::from_vec(words.to_vec(alloc)?),
-        }),
-        _ => Err(Fail::new("the row has other numbers")),
-    }
-}
 
 // A set of five slots, of 100, 64, 127, 64 pages and one page: all but slot 1 have a dirty log.
 fn five_slots() -> SlotSet {
@@ -87,9 +72,9 @@ fn asked(alloc: Global, line: &Command, slot: &Slot) -> Result<String, Fail> {
     )?)
 }
 
-// What comes of the row.
-fn told(alloc: Global, row: &str) -> Result<String, Fail> {
-    let line = command(alloc, row)?;
+/// What comes of the row.
+pub fn told(alloc: Global, row: &str) -> Result<String, Fail> {
+    let line = line_of(alloc, row)?.command;
     let Some(id) = line.log_read() else {
         let most = sizes().most_words(&line);
         return Ok(format!(in alloc; "reads none most {most}")?);
@@ -101,21 +86,6 @@ fn told(alloc: Global, row: &str) -> Result<String, Fail> {
             Ok(format!(in alloc; "{name}")?)
         }
     }
-}
-
-// How many rows come out as they stand there, and the first that does not, with what came of it.
-fn first_other(alloc: Global, table: &str) -> Result<(usize, String), Fail> {
-    let mut count = 0usize;
-    for row in table.split('\n') {
-        if let Some((row, wanted)) = row.split_once(": ") {
-            let came = told(alloc, row)?;
-            if came.as_str() != wanted {
-                return Ok((count, format!(in alloc; "{row}: {came}")?));
-            }
-            count = count.saturating_add(1);
-        }
-    }
-    Ok((count, String::new(alloc)))
 }
 
 // A get asks for each page. Of bits 35 and 36 the first is that of the last page of slot 0; bits from the count
@@ -140,7 +110,7 @@ delete 0: reads none most 0
 
 #[test]
 fn asks_for_bits_and_pages(rt: HostRuntime) -> Result<(), Fail> {
-    expect_rows(&rt, first_other(rt.alloc(), ASKS), 15)
+    expect_all(&rt, rt.alloc(), Way::Logs, ASKS, 15)
 }
 
 // No slot has the ID; else the slot has no log; else the range begins within a word, ends within one before the
@@ -168,7 +138,7 @@ clear 0 64 0xffffffffffffffc0: bad-range
 
 #[test]
 fn refuses_what_is_no_log(rt: HostRuntime) -> Result<(), Fail> {
-    expect_rows(&rt, first_other(rt.alloc(), REFUSED), 18)
+    expect_all(&rt, rt.alloc(), Way::Logs, REFUSED, 18)
 }
 
 // Whether the line takes out what it reads, where logs are automatic, manual, and manual with all set.
@@ -185,15 +155,19 @@ fn has_far_bits(line: &Command, slot: &Slot) -> bool {
     line.mask_asked(slot, 1 << 58) != 0 || line.mask_asked(slot, (1 << 58) + 1) != 0
 }
 
+// Whether a get and a clear are such lines, and a get has no far bits of slot 0.
+fn tells_by_the_mode(alloc: Global) -> Result<bool, Fail> {
+    let get = line_of(alloc, "get 0")?.command;
+    let clear = line_of(alloc, "clear 0 0 64")?.command;
+    let far = match five_slots().get(0) {
+        Some(found) => has_far_bits(&get, &found.slot),
+        None => true,
+    };
+    let is_so = takes_out(&get) == (true, false, false) && takes_out(&clear) == (true, true, true);
+    Ok(is_so && !far)
+}
+
 #[test]
 fn takes_out_by_the_mode(rt: HostRuntime) -> Result<(), Fail> {
-    let get = command(rt.alloc(), "get 0")?;
-    let clear = command(rt.alloc(), "clear 0 0 64")?;
-    assert_eq!(rt; takes_out(&get), (true, false, false));
-    assert_eq!(rt; takes_out(&clear), (true, true, true));
-    let far = five_slots()
-        .get(0)
-        .map(|found| has_far_bits(&get, &found.slot));
-    assert_eq!(rt; far, Some(false));
-    Ok(())
+    expect(&rt, tells_by_the_mode(rt.alloc()))
 }

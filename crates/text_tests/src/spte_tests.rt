@@ -1,6 +1,6 @@
 //! Entries, host words, flags and the map of words, by their numbers.
 
-use crate::expected_rows::expect;
+use crate::expected::expect_both;
 use spte_words::{Area, HostWord, SlotFlags, Spte, SpteKind, WordMap};
 use std::test::Fail;
 
@@ -29,12 +29,6 @@ fn entry_words() -> (Option<usize>, bool) {
     )
 }
 
-#[test]
-fn entries_are_these_words(rt: HostRuntime) -> Result<(), Fail> {
-    expect(&rt, entry_words());
-    Ok(())
-}
-
 fn kinds_by_level() -> bool {
     let is_table = Spte::from_word(0x3807).kind(4) == SpteKind::Table(3);
     let is_leaf = Spte::from_word(0x3807).kind(1) == SpteKind::Leaf;
@@ -51,24 +45,15 @@ fn large_leaf() -> (Option<usize>, bool) {
     (first_other(&numbers), is_leaf && is_writable)
 }
 
-#[test]
-fn entries_are_read_by_level(rt: HostRuntime) -> Result<(), Fail> {
-    let (first, is_large) = large_leaf();
-    expect(&rt, (first, is_large && kinds_by_level()));
-    Ok(())
-}
-
-#[test]
 #[tactic(auto, using(spte_words::proofs::ReadsEntries::leaf_frame))]
-fn children_of_a_large_leaf(rt: HostRuntime) -> Result<(), Fail> {
-    let huge = Spte::leaf(3, 0x40000, false, true, true);
-    let child = huge.child(3, 2);
-    assert_eq!(rt; child.word(), 0x600000040400885);
-    assert_eq!(rt;
-        Spte::leaf(2, 512, true, true, true).child(2, 511).word(),
-        0x6000000003ff807
-    );
-    Ok(())
+fn children_of_large_leaves() -> (Option<usize>, bool) {
+    let child = Spte::leaf(3, 0x40000, false, true, true).child(3, 2);
+    let last = Spte::leaf(2, 512, true, true, true).child(2, 511);
+    let words = [
+        (child.word(), 0x600000040400885),
+        (last.word(), 0x6000000003ff807),
+    ];
+    (first_other(&words), true)
 }
 
 // Rows of an entry, its level, a place, and the word that stands there in a table that is linked in
@@ -97,12 +82,6 @@ fn words_below() -> Option<usize> {
     None
 }
 
-#[test]
-fn words_below_an_entry(rt: HostRuntime) -> Result<(), Fail> {
-    expect(&rt, (words_below(), true));
-    Ok(())
-}
-
 fn host_words() -> (Option<usize>, bool) {
     let host = HostWord::new(5, true, true, 1);
     let huge = HostWord::from_word(0x20000d);
@@ -127,13 +106,6 @@ fn slot_flags() -> (Option<usize>, bool) {
     )
 }
 
-#[test]
-fn host_words_and_flags(rt: HostRuntime) -> Result<(), Fail> {
-    expect(&rt, host_words());
-    expect(&rt, slot_flags());
-    Ok(())
-}
-
 #[tactic(auto, unfolding(spte_words::specs::Areas::total))]
 fn map_places() -> (Option<usize>, bool) {
     let map = WordMap::new(1024, 1040, 1, 64, 5);
@@ -153,7 +125,19 @@ fn map_places() -> (Option<usize>, bool) {
 }
 
 #[test]
-fn places_of_a_map(rt: HostRuntime) -> Result<(), Fail> {
-    expect(&rt, map_places());
+fn entries_are_these_words(rt: HostRuntime) -> Result<(), Fail> {
+    expect_both(&rt, entry_words());
+    expect_both(&rt, large_leaf());
+    expect_both(&rt, (None, kinds_by_level()));
+    expect_both(&rt, children_of_large_leaves());
+    expect_both(&rt, (words_below(), true));
+    Ok(())
+}
+
+#[test]
+fn other_words_and_places(rt: HostRuntime) -> Result<(), Fail> {
+    expect_both(&rt, host_words());
+    expect_both(&rt, slot_flags());
+    expect_both(&rt, map_places());
     Ok(())
 }

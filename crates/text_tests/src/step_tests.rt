@@ -3,11 +3,11 @@
 use crate::cases::{Way, expect_all};
 use crate::expected::expect_text;
 use crate::rows::numbers;
-use core_views::{Actor, Answer, Item, LogMode, Refusal, Sizes, Until};
+use core_views::{Actor, Answer, LogMode, Refusal, Sizes};
 use spte_words::{Area, WordMap};
 use std::alloc::Global;
 use std::test::Fail;
-use step_text::{Ending, Row, WordPlace, place_of, push_item, push_rounds, push_row};
+use step_text::{Ending, Row, WordPlace, place_of, push_row};
 
 // Two virtual processors, a host thread, the manager and a worker; two words a frame.
 fn sizes() -> Sizes {
@@ -91,17 +91,17 @@ pub fn told(alloc: Global, case: &str) -> Result<String, Fail> {
 }
 
 const ENTRIES: &str = "\
-1 v0 walk pool[0][0] 0x4807 (link 4)|3 pool 0 4 0x4807 0x4807
-1 v0 walk pool[3][17] 0x0 (absent)|3 pool 1553 3 0 0
-1 v0 walk pool[0][511] 0x5a0 (frozen)|3 pool 511 2 0x5a0 0x5a0
-1 v0 walk pool[2][5] 0x600000000005807 (leaf frame 5 rw)|3 pool 1029 1 0x600000000005807 0x600000000005807
-1 v0 walk pool[2][6] 0x600000000005805 (leaf frame 5 ro)|3 pool 1030 1 0x600000000005805 0x600000000005805
-1 v0 walk pool[2][7] 0x600000000200887 (leaf frame 512 rw)|3 pool 1031 2 0x600000000200887 0x600000000200887
-1 v0 swap pool[3][17] 0x0 (absent) -> 0x4807 (link 4)|13 pool 1553 3 0 0x4807
-1 v0 zap pool[2][5] 0x600000000005807 (leaf frame 5 rw) -> 0x0 (absent)|23 pool 1029 1 0x600000000005807 0
-1 v0 slot pool[1][3] 0x1000|10 pool 515 5 0x1000 0x1000
-1 v0 fill pool[1][3] 0x0 -> 0x4807|20 pool 515 0 0 0x4807
-1 v0 fill pool[1][3] 0x4807 -> 0x0|20 pool 515 6 0x4807 0
+3 pool 0 4 0x4807 0x4807: 1 v0 walk pool[0][0] 0x4807 (link 4)
+3 pool 1553 3 0 0: 1 v0 walk pool[3][17] 0x0 (absent)
+3 pool 511 2 0x5a0 0x5a0: 1 v0 walk pool[0][511] 0x5a0 (frozen)
+3 pool 1029 1 0x600000000005807 0x600000000005807: 1 v0 walk pool[2][5] 0x600000000005807 (leaf frame 5 rw)
+3 pool 1030 1 0x600000000005805 0x600000000005805: 1 v0 walk pool[2][6] 0x600000000005805 (leaf frame 5 ro)
+3 pool 1031 2 0x600000000200887 0x600000000200887: 1 v0 walk pool[2][7] 0x600000000200887 (leaf frame 512 rw)
+13 pool 1553 3 0 0x4807: 1 v0 swap pool[3][17] 0x0 (absent) -> 0x4807 (link 4)
+23 pool 1029 1 0x600000000005807 0: 1 v0 zap pool[2][5] 0x600000000005807 (leaf frame 5 rw) -> 0x0 (absent)
+10 pool 515 5 0x1000 0x1000: 1 v0 slot pool[1][3] 0x1000
+20 pool 515 0 0 0x4807: 1 v0 fill pool[1][3] 0x0 -> 0x4807
+20 pool 515 6 0x4807 0: 1 v0 fill pool[1][3] 0x4807 -> 0x0
 ";
 
 #[test]
@@ -110,16 +110,16 @@ fn tells_entries_by_the_role_of_their_page(rt: HostRuntime) -> Result<(), Fail> 
 }
 
 const STATES: &str = "\
-1 v0 host host[5] 0x5007 (frame 5 rw)|11 host 5 0 0x5007 0x5007
-1 v0 bring host[5] 0x5006 (absent frame 5 rw) -> 0x5007 (frame 5 rw)|12 host 5 0 0x5006 0x5007
-1 v0 change host[6] 0x6007 (frame 6 rw) -> 0x6005 (frame 6 ro)|26 host 6 0 0x6007 0x6005
-1 v0 change host[6] 0x6005 (frame 6 ro) -> 0x6004 (absent frame 6 ro)|26 host 6 0 0x6005 0x6004
-1 v0 enter state[v0] 0x0 (outside) -> 0x3 (in guest)|1 state 0 0 0 3
-1 v0 begin state[v1] 0x0 (outside) -> 0x2 (in section)|7 state 1 0 0 2
-1 v0 ask state[v1] 0x3 (in guest) -> 0x7 (in guest, flush asked)|24 state 1 0 3 7
-1 v0 watch state[h0] 0x6 (in section, flush asked)|31 state 2 0 6 6
-1 v0 watch state[vm] 0x4 (outside, flush asked)|31 state 3 0 4 4
-1 v0 watch state[w0] 0x1 (in guest)|31 state 4 0 1 1
+11 host 5 0 0x5007 0x5007: 1 v0 host host[5] 0x5007 (frame 5 rw)
+12 host 5 0 0x5006 0x5007: 1 v0 bring host[5] 0x5006 (absent frame 5 rw) -> 0x5007 (frame 5 rw)
+26 host 6 0 0x6007 0x6005: 1 v0 change host[6] 0x6007 (frame 6 rw) -> 0x6005 (frame 6 ro)
+26 host 6 0 0x6005 0x6004: 1 v0 change host[6] 0x6005 (frame 6 ro) -> 0x6004 (absent frame 6 ro)
+1 state 0 0 0 3: 1 v0 enter state[v0] 0x0 (outside) -> 0x3 (in guest)
+7 state 1 0 0 2: 1 v0 begin state[v1] 0x0 (outside) -> 0x2 (in section)
+24 state 1 0 3 7: 1 v0 ask state[v1] 0x3 (in guest) -> 0x7 (in guest, flush asked)
+31 state 2 0 6 6: 1 v0 watch state[h0] 0x6 (in section, flush asked)
+31 state 3 0 4 4: 1 v0 watch state[vm] 0x4 (outside, flush asked)
+31 state 4 0 1 1: 1 v0 watch state[w0] 0x1 (in guest)
 ";
 
 #[test]
@@ -128,19 +128,19 @@ fn tells_host_words_and_state_words(rt: HostRuntime) -> Result<(), Fail> {
 }
 
 const OTHERS: &str = "\
-1 v0 control root 0x0|9 root 0 0 0 0
-1 v0 publish slots 0x1 -> 0x2|30 slots 0 0 1 2
-1 v0 set seq 0x9 -> 0xa|22 seq 0 0 9 10
-1 v0 set count 0x0 -> 0x1|22 count 0 0 0 1
-1 v0 set rangestart 0x0 -> 0x10|22 rangestart 0 0 0 16
-1 v0 set rangeend 0x0 -> 0x20|22 rangeend 0 0 0 32
-1 v0 exclude lock 0x0 -> 0x8000000000000000|17 lock 0 0 0 0x8000000000000000
-1 v0 control pause 0x0|9 pause 0 0 0 0
-1 v0 claim poolmap[0] 0xffffffffffffffff -> 0xfffffffffffffffe|19 poolmap 0 0 0xffffffffffffffff 0xfffffffffffffffe
-1 v0 frame framemap[1] 0xabcd -> 0xabcc|28 framemap 1 0 0xabcd 0xabcc
-1 v0 mark log[0] 0x0 -> 0x8|14 log 0 0 0 8
-1 v0 fill role[3] 0x0 -> 0x1|20 role 3 0 0 1
-1 v0 write content[5][1] 0x0 -> 0xffffffffffffffff|5 content 11 0 0 0xffffffffffffffff
+9 root 0 0 0 0: 1 v0 control root 0x0
+30 slots 0 0 1 2: 1 v0 publish slots 0x1 -> 0x2
+22 seq 0 0 9 10: 1 v0 set seq 0x9 -> 0xa
+22 count 0 0 0 1: 1 v0 set count 0x0 -> 0x1
+22 rangestart 0 0 0 16: 1 v0 set rangestart 0x0 -> 0x10
+22 rangeend 0 0 0 32: 1 v0 set rangeend 0x0 -> 0x20
+17 lock 0 0 0 0x8000000000000000: 1 v0 exclude lock 0x0 -> 0x8000000000000000
+9 pause 0 0 0 0: 1 v0 control pause 0x0
+19 poolmap 0 0 0xffffffffffffffff 0xfffffffffffffffe: 1 v0 claim poolmap[0] 0xffffffffffffffff -> 0xfffffffffffffffe
+28 framemap 1 0 0xabcd 0xabcc: 1 v0 frame framemap[1] 0xabcd -> 0xabcc
+14 log 0 0 0 8: 1 v0 mark log[0] 0x0 -> 0x8
+20 role 3 0 0 1: 1 v0 fill role[3] 0x0 -> 0x1
+5 content 11 0 0 0xffffffffffffffff: 1 v0 write content[5][1] 0x0 -> 0xffffffffffffffff
 ";
 
 #[test]
@@ -236,25 +236,6 @@ const FILLS: &str = "\
 #[test]
 fn tells_fills_as_one_line(rt: HostRuntime) -> Result<(), Fail> {
     expect_text(&rt, fills_told(rt.alloc()), FILLS)
-}
-
-fn items(alloc: Global) -> Result<String, Fail> {
-    let mut text = String::new(alloc);
-    for (actor, until) in [
-        (Actor::Vcpu(0), Until::Turns(12)),
-        (Actor::Vcpu(0), Until::Answered),
-        (Actor::Host(1), Until::Made(19)),
-    ] {
-        push_item(&mut text, &Item { actor, until })?;
-    }
-    push_rounds(&mut text)?;
-    Ok(text)
-}
-
-#[test]
-fn tells_items_and_rounds(rt: HostRuntime) -> Result<(), Fail> {
-    let text = "> v0 12\n> v0 end\n> h1 claim\nrounds\n";
-    expect_text(&rt, items(rt.alloc()), text)
 }
 
 // The area of each of these words, and which word of the area it is.
