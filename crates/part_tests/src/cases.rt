@@ -1,5 +1,6 @@
-//! Tables of acts, as text, and machines at which they are done. A table is the lines of a trace, a line `==`, and a
-//! row for each act, which says who does it, what it is, with a number or none, and after a `:` what comes of it.
+//! Tables of acts, as text, and machines at which they are done. A case of a table is the lines of a trace, with a header or
+//! after the table's, a line `==`, and a row for each act, which says who does it, what it is, with a number or none, and
+//! after a `:` what comes of it. A line `--` stands between cases.
 //! `machine word N` looks at a word of the machine, `machine zeros N` counts the words from there on that are 0, and
 //! a last row `machine words` has how many words there are. Numbers above 65535 are told in sixteens. Lines that
 //! begin with `//` say what the rows are about.
@@ -277,15 +278,15 @@ fn counted(alloc: Global, machine: PlainMachine, want: &str) -> Result<(usize, S
     }
 }
 
-/// How many rows of the table come out as they stand there, and the first one that doesn't, with what came of it.
-/// The trace of its machine has this header.
-pub fn first_other_row<A: Acts>(
+// The same of a case, whose machine has this header, or its own.
+fn first_other_in<A: Acts>(
     alloc: Global,
     head: &str,
     acts: &mut A,
-    table: &str,
+    case: &str,
 ) -> Result<(usize, String), Fail> {
-    let (lines, rows, words) = parts_of(table);
+    let (lines, rows, words) = parts_of(case);
+    let head = if lines.starts_with("tdp ") { "" } else { head };
     let mut machine = machine_of(alloc, head, lines)?;
     let (done, other) = first_other_act(alloc, acts, &mut machine, rows)?;
     match words {
@@ -295,4 +296,23 @@ pub fn first_other_row<A: Acts>(
         }
         _ => Ok((done, other)),
     }
+}
+
+/// How many rows of the table come out as they stand there, and the first one that doesn't, with what came of it.
+/// The traces of its machines have this header, but for those that have one of their own.
+pub fn first_other_row<A: Acts>(
+    alloc: Global,
+    head: &str,
+    acts: &mut A,
+    table: &str,
+) -> Result<(usize, String), Fail> {
+    let mut count = 0usize;
+    for case in table.split("--\n") {
+        let (done, other) = first_other_in(alloc, head, acts, case)?;
+        count = count.saturating_add(done);
+        if !other.is_empty() {
+            return Ok((count, other));
+        }
+    }
+    Ok((count, String::new(alloc)))
 }

@@ -17,3 +17,10 @@ pub fn expect_all<R: Abort, A: Acts>(
     assert_eq!(rt; (rows, other.as_str()), (count, ""));
     Ok(())
 }
+
+/// The text is this one.
+pub fn expect_text<R: Abort>(rt: &R, text: Result<String, Fail>, wanted: &str) -> Result<(), Fail> {
+    let text = text?;
+    assert_eq!(rt; text.as_str(), wanted);
+    Ok(())
+}
