@@ -1,11 +1,10 @@
 //! Faults of the accesses of two processors, beside a manager that sets slot 0: of guest frames 0 to 5, which are host pages 64
 //! to 69, at frames 64 to 69. A host thread evicts the last page, or forbids writes to it, in the cases that make the steps of
 //! its line.
-use crate::expected::expect_all;
 use crate::turns::{fast_fault, go_to_fault, whole_fault};
-use crate::{Acts, Came, HEAD_OF_POOL_8, make_steps};
+use crate::{Acts, Came, HEAD_OF_POOL_8, all_that_come, make_steps};
 use core_views::{Actor, FaultPlace};
-use std::test::Fail;
+use std::alloc::Global;
 use step_seats::{PlainMachine, Stepper};
 
 fn run<S: Stepper>(seat: &mut S, most: u64) -> Came {
@@ -43,8 +42,12 @@ impl Acts for Faults {
 // page 69 word 18 + 69. The entries of the root begin at word 96, and those of the pages 1, 3, 4 and 5 at words 608, 1632, 2144
 // and 2656; with four pool pages those of the root at word 92. A link to page 3 is 14343.
 //
+// Fast faults of a write that meets a leaf which forbids it, at guest frame 5. Each doesn't allow the write, leaves the leaf, and
+// says what it found.
+//
+
 // A whole fault makes 12 turns up to the root, 517 for each table, and 4 from the last one to its end.
-const FAULTS: &str = "\
+const TABLE: &str = "\
 vm slot 0 0 6 64
 v0 read 0x5000
 v1 write 0x5000 7
@@ -151,26 +154,16 @@ machine word 92: 6151
 machine word 604: 14343
 machine word 1628: 0
 machine words: 2400
-";
-
-#[test]
-fn puts_a_leaf_or_says_why_not(rt: HostRuntime) -> Result<(), Fail> {
-    expect_all(&rt, rt.alloc(), HEAD_OF_POOL_8, &mut Faults, FAULTS, 49)
-}
-
-// Fast faults of a write that meets a leaf which forbids it, at guest frame 5. Each doesn't allow the write, leaves the leaf, and
-// says what it found.
-//
+--
+vm slot 0 0 6 64 ro
+v0 read 0x5000
+v0 write 0x5000 7
+==
 // Steps of the read, which puts three tables and the leaf: 5 + 12 + 3 * 517 + 4 + 9; and of the write's stay, which
 // meets the leaf, 8: enter, pause, root, four entries, leave. The line of the manager or of the host thread makes less
 // than 1000. Steps of a fast fault, 12: begin, slot set, the four words of slot 0, root, four entries, end;
 // and where no slot is set 35: begin, slot set, the flags of 32 slots, end.
 // The leaf is word 2144 + 5, in page 4, and the word of page 69 in the dirty log is word 17.
-const NOT_FAST: &str = "\
-vm slot 0 0 6 64 ro
-v0 read 0x5000
-v0 write 0x5000 7
-==
 // A leaf that is host-writable and not MMU-writable, in a read-only slot.
 vm run 524: ran
 v0 run 1589: ran
@@ -218,7 +211,8 @@ machine word 2149: 0
 machine word 17: 0
 ";
 
-#[test]
-fn says_why_it_is_not_fast(rt: HostRuntime) -> Result<(), Fail> {
-    expect_all(&rt, rt.alloc(), HEAD_OF_POOL_8, &mut Faults, NOT_FAST, 23)
+/// How many rows of the table come out as they stand there.
+pub fn rows(alloc: Global) -> usize {
+    let mut acts = Faults;
+    all_that_come(alloc, HEAD_OF_POOL_8, &mut acts, TABLE)
 }

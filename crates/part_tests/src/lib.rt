@@ -40,6 +40,8 @@ mod show_tests;
 #[cfg(test)]
 mod table_tests;
 #[cfg(test)]
+mod tests;
+#[cfg(test)]
 mod tlb_tests;
 #[cfg(test)]
 mod turns;
@@ -49,8 +51,8 @@ mod untold;
 mod walk_tests;
 
 #[cfg(test)]
-use cases::{Acts, Came, first_other_row, make};
+use cases::{Acts, Came, all_that_come, make};
 #[cfg(test)]
 use lines::{go_to, is_next, make_steps};
 #[cfg(test)]
-use machines::{HEAD, HEAD_OF_POOL_8, expect_actor, machine_of};
+use machines::{HEAD, HEAD_OF_POOL_8, has_actor, machine_of, trace_of};

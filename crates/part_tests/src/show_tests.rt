@@ -1,15 +1,14 @@
 //! What the built `show_steps` can't be run on: few turns in rounds, and no words at all. All its other runs are cases
 //! (`examples/cases/steps.cases`) and examples.
-use crate::expected::expect_text;
+use core_views::NoMemory;
 use run_status::Status;
 use std::alloc::Global;
-use std::test::Fail;
 use step_printing::run_within;
 use tdp_io::{MemSink, MemSource};
 
 // The number of the exit status with which the program ends that is called with these words on this input, and has so many turns
 // in rounds; and what it prints.
-fn told(alloc: Global, words: &Vec<String>, turns: u64, input: &str) -> Result<String, Fail> {
+fn told(alloc: Global, words: &Vec<String>, turns: u64, input: &str) -> Result<String, NoMemory> {
     let mut src = MemSource::new(input.as_bytes().to_vec(alloc)?, Vec::new(alloc));
     let mut out = MemSink::new(alloc, Vec::new(alloc));
     let status: Status = run_within(alloc, words, turns, &mut src, &mut out);
@@ -18,10 +17,21 @@ fn told(alloc: Global, words: &Vec<String>, turns: u64, input: &str) -> Result<S
     Ok(format!(in alloc; "{code}\n{text}")?)
 }
 
-// The same of a call with its name alone.
-fn called(alloc: Global, turns: u64, input: &str) -> Result<String, Fail> {
-    let words = vec![in alloc; String::from_str(alloc, "show_steps")?]?;
-    told(alloc, &words, turns, input)
+// Whether this comes of such a call.
+fn is_told(alloc: Global, words: &Vec<String>, turns: u64, input: &str, wanted: &str) -> bool {
+    match told(alloc, words, turns, input) {
+        Ok(text) => text.as_str() == wanted,
+        Err(_) => false,
+    }
+}
+
+// The same of a call with the program's name alone.
+fn is_shown(alloc: Global, turns: u64, input: &str, wanted: &str) -> bool {
+    let mut words = Vec::new(alloc);
+    match String::from_str(alloc, "show_steps") {
+        Ok(name) => words.push(name).is_ok() && is_told(alloc, &words, turns, input, wanted),
+        Err(_) => false,
+    }
 }
 
 // Two virtual processors claim a page each, v0 fills some of its own, and both fill in turn, with 7 turns in rounds: an
@@ -115,9 +125,9 @@ rounds
 unfinished 4 v0
 ";
 
-#[test]
-fn ends_where_its_turns_do(rt: HostRuntime) -> Result<(), Fail> {
-    expect_text(&rt, called(rt.alloc(), 7, TWO_READS), SEVEN_TURNS)
+/// Whether a run ends after seven turns in rounds.
+pub fn ends_where_its_turns_do(alloc: Global) -> bool {
+    is_shown(alloc, 7, TWO_READS, SEVEN_TURNS)
 }
 
 const A_SLOT: &str = "\
@@ -125,18 +135,13 @@ tdp 1 vcpus 2 workers 1 pages 1024 frames 1040 words 1 pool 64 cache 64 manual 0
 vm slot 0 0 16 0
 ";
 
-// A slot line that gets no turn.
-#[test]
-fn makes_no_turn(rt: HostRuntime) -> Result<(), Fail> {
-    expect_text(
-        &rt,
-        called(rt.alloc(), 0, A_SLOT),
-        "6\nrounds\nunfinished 2 vm\n",
-    )
+/// Whether a slot line may get no turn.
+pub fn makes_no_turn(alloc: Global) -> bool {
+    is_shown(alloc, 0, A_SLOT, "6\nrounds\nunfinished 2 vm\n")
 }
 
-#[test]
-fn has_no_words(rt: HostRuntime) -> Result<(), Fail> {
-    let came = told(rt.alloc(), &Vec::new(rt.alloc()), 0, A_SLOT);
-    expect_text(&rt, came, "2\nusage: show_steps [weave | replay]\n")
+/// Whether a call may have no words.
+pub fn has_no_words(alloc: Global) -> bool {
+    let wanted = "2\nusage: show_steps [weave | replay]\n";
+    is_told(alloc, &Vec::new(alloc), 0, A_SLOT, wanted)
 }

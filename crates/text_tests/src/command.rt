@@ -8,13 +8,12 @@
 //! - `start`, `round`, `finish` and `resume`, of the guest's migration;
 //! - `allow PAGE`, `protect PAGE`, `evict PAGE`, `move PAGE`, `huge PAGE LEVEL` and `small PAGE`, with `by` and
 //!   the number of the host thread.
-ghost use Rattle.std.specs.Prelude.{IfOk};
+ghost use Rattle.std.specs.Prelude.{IfSome};
 ghost use Rattle.flat_model.specs.Kept.{IsInRange};
 
 use crate::rows::{numbers, verb};
 use core_views::{Actor, Command, HostChange, Line, MigrationCall, Op, RunChange, Slot, Words};
 use std::alloc::Global;
-use std::test::Fail;
 
 /// A number that is small; 255 stands for one that isn't.
 pub fn small(number: u64) -> u8 {
@@ -22,21 +21,21 @@ pub fn small(number: u64) -> u8 {
 }
 
 // The command that sets the slot, if its numbers are in the ranges of a line.
-fn set_slot(id: u64, slot: Slot) -> Result<Command, Fail>
-    ensures { IfOk result (λ command. IsInRange command) }
+fn set_slot(id: u64, slot: Slot) -> Option<Command>
+    ensures { IfSome result (λ command. IsInRange command) }
 {
     if slot.pages == 0 || slot.pages >= 1 << 36 {
-        return Err(Fail::new("the slot has no page, or too many"));
+        return None;
     }
     if slot.base >= 1 << 36 || slot.host >= 1 << 36 || slot.host % 64 != 0 {
-        return Err(Fail::new("the slot is out of range"));
+        return None;
     }
-    Ok(Command::SetSlot { id, slot })
+    Some(Command::SetSlot { id, slot })
 }
 
 // The command of an access, or of a slot.
-fn change(row: &str, numbers: &[u64]) -> Result<Command, Fail>
-    ensures { IfOk result (λ command. IsInRange command) }
+fn change(row: &str, numbers: &[u64]) -> Option<Command>
+    ensures { IfSome result (λ command. IsInRange command) }
 {
     let (gfn, word, op) = match (verb(row), numbers) {
         ("slot", [id, base, pages, host]) => {
@@ -48,13 +47,13 @@ fn change(row: &str, numbers: &[u64]) -> Result<Command, Fail>
             };
             return set_slot(*id, slot);
         }
-        ("delete", [id]) => return Ok(Command::DeleteSlot { id: *id }),
+        ("delete", [id]) => return Some(Command::DeleteSlot { id: *id }),
         ("read", [gfn, word]) => (*gfn, *word, Op::Read),
         ("write", [gfn, word, value]) => (*gfn, *word, Op::Write(*value)),
         ("add", [gfn, word, value]) => (*gfn, *word, Op::Add(*value)),
-        _ => return Err(Fail::new("the row has another word, or other numbers")),
+        _ => return None,
     };
-    Ok(Command::Access {
+    Some(Command::Access {
         gfn,
         word: small(word),
         op,
@@ -62,20 +61,20 @@ fn change(row: &str, numbers: &[u64]) -> Result<Command, Fail>
 }
 
 // The command of a host thread.
-fn host_change(row: &str, numbers: &[u64]) -> Result<Command, Fail>
-    ensures { IfOk result (λ command. IsInRange command) }
+fn host_change(row: &str, numbers: &[u64]) -> Option<Command>
+    ensures { IfSome result (λ command. IsInRange command) }
 {
     let (page, change) = match (verb(row), numbers) {
         ("huge", [page, level, _]) => {
             let change = RunChange::Huge(small(*level));
-            return Ok(Command::ChangeRun {
+            return Some(Command::ChangeRun {
                 page: *page,
                 change,
             });
         }
         ("small", [page, _]) => {
             let change = RunChange::Small;
-            return Ok(Command::ChangeRun {
+            return Some(Command::ChangeRun {
                 page: *page,
                 change,
             });
@@ -84,28 +83,28 @@ fn host_change(row: &str, numbers: &[u64]) -> Result<Command, Fail>
         ("protect", [page, _]) => (*page, HostChange::Protect),
         ("evict", [page, _]) => (*page, HostChange::Evict),
         ("move", [page, _]) => (*page, HostChange::Move),
-        _ => return Err(Fail::new("the row has another word, or other numbers")),
+        _ => return None,
     };
-    Ok(Command::ChangeHost { page, change })
+    Some(Command::ChangeHost { page, change })
 }
 
 // The command of a dirty log.
-fn log_command(alloc: Global, row: &str, numbers: &[u64]) -> Result<Command, Fail>
-    ensures { IfOk result (λ command. IsInRange command) }
+fn log_command(alloc: Global, row: &str, numbers: &[u64]) -> Option<Command>
+    ensures { IfSome result (λ command. IsInRange command) }
 {
     match (verb(row), numbers) {
         ("log", [id]) => {
             let on = row.ends_with(" on");
-            Ok(Command::SetLog { id: *id, on })
+            Some(Command::SetLog { id: *id, on })
         }
-        ("get", [id]) => Ok(Command::GetLog { id: *id }),
-        ("clear", [id, first, count, words @ ..]) => Ok(Command::ClearLog {
+        ("get", [id]) => Some(Command::GetLog { id: *id }),
+        ("clear", [id, first, count, words @ ..]) => Some(Command::ClearLog {
             id: *id,
             first: *first,
             count: *count,
-            words: Words::from_vec(words.to_vec(alloc)?),
+            words: Words::from_vec(words.to_vec(alloc).ok()?),
         }),
-        _ => Err(Fail::new("the row has another word, or other numbers")),
+        _ => None,
     }
 }
 
@@ -132,19 +131,26 @@ fn actor_of(command: &Command, numbers: &[u64]) -> Actor {
     }
 }
 
-/// The line of a row.
-pub fn line_of(alloc: Global, row: &str) -> Result<Line, Fail>
-    ensures { IfOk result (λ line. IsInRange line.command) }
+// The command of a row with these numbers.
+fn command(alloc: Global, row: &str, numbers: &[u64]) -> Option<Command>
+    ensures { IfSome result (λ command. IsInRange command) }
 {
-    let numbers = numbers(alloc, row)?;
-    let command = match verb(row) {
-        "slot" | "delete" | "read" | "write" | "add" => change(row, &numbers)?,
-        "allow" | "protect" | "evict" | "move" | "huge" | "small" => host_change(row, &numbers)?,
-        "log" | "get" | "clear" => log_command(alloc, row, &numbers)?,
-        word => migration(word),
-    };
+    match verb(row) {
+        "slot" | "delete" | "read" | "write" | "add" => change(row, numbers),
+        "allow" | "protect" | "evict" | "move" | "huge" | "small" => host_change(row, numbers),
+        "log" | "get" | "clear" => log_command(alloc, row, numbers),
+        word => Some(migration(word)),
+    }
+}
+
+/// The line of a row, if it is one.
+pub fn line_of(alloc: Global, row: &str) -> Option<Line>
+    ensures { IfSome result (λ line. IsInRange line.command) }
+{
+    let numbers = numbers(alloc, row).ok()?;
+    let command = command(alloc, row, &numbers)?;
     let actor = actor_of(&command, &numbers);
-    Ok(Line {
+    Some(Line {
         number: 3,
         actor,
         command,

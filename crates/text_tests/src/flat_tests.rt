@@ -4,22 +4,14 @@
 //! each host thread are, as the header of a trace does. The rows after it are lines (`command.rt`). What a trace has is
 //! `examples/cases/flat-answers.cases`.
 use crate::command::{line_of, small};
-use crate::expected::expect_rows;
 use crate::rows::numbers;
-use core_views::{Header, Lines, Trace, Words};
+use core_views::{Answer, Header, Lines, Trace, Words};
 use flat_model::Plain;
 use std::alloc::Global;
-use std::test::Fail;
 
 /// The header of a trace with these sizes, whose pages have two words.
-pub fn header(
-    alloc: Global,
-    pages: u64,
-    frames: u64,
-    manual: u8,
-    hosts: &[u64],
-) -> Result<Header, Fail> {
-    Ok(Header {
+pub fn header(pages: u64, frames: u64, manual: u8, hosts: Vec<u64>) -> Header {
+    Header {
         version: 1,
         vcpus: 1,
         workers: 0,
@@ -29,46 +21,73 @@ pub fn header(
         pool: 64,
         cache: 64,
         manual,
-        hosts: Words::from_vec(hosts.to_vec(alloc)?),
-    })
+        hosts: Words::from_vec(hosts),
+    }
+}
+
+// The header with which a case begins.
+fn header_of(alloc: Global, head: &str) -> Option<Header> {
+    let numbers = numbers(alloc, head).ok()?;
+    match numbers.as_slice() {
+        [pages, frames, manual, hosts @ ..] => {
+            let hosts = hosts.to_vec(alloc).ok()?;
+            Some(header(*pages, *frames, small(*manual), hosts))
+        }
+        _ => None,
+    }
 }
 
 // The memory with which a case begins.
-fn begun(alloc: Global, head: &str) -> Result<Plain, Fail> {
-    let numbers = numbers(alloc, head)?;
-    let header = match numbers.as_slice() {
-        [pages, frames, manual, hosts @ ..] => {
-            header(alloc, *pages, *frames, small(*manual), hosts)?
-        }
-        _ => return Err(Fail::new("the case has no head")),
-    };
+fn begun(alloc: Global, head: &str) -> Option<Plain> {
+    let header = header_of(alloc, head)?;
     let trace = Trace::unscheduled(alloc, header, Lines::from_vec(Vec::new(alloc)));
-    Ok(Plain::new(alloc, &trace)?)
+    Plain::new(alloc, &trace).ok()
 }
 
-// What the row is answered.
-fn told(alloc: Global, plain: &mut Plain, row: &str) -> Result<String, Fail> {
-    let line = line_of(alloc, row)?;
-    let answer = plain.line(alloc, &line)?;
-    Ok(format!(in alloc; "{answer}")?)
+// Whether this is the text of the answer.
+fn is_told(alloc: Global, answer: &Answer, wanted: &str) -> bool {
+    match format!(in alloc; "{answer}") {
+        Ok(text) => text.as_str() == wanted,
+        Err(_) => false,
+    }
 }
 
-// How many rows are answered as they stand there, one after another, and the first one that isn't, with its answer.
-fn first_other(alloc: Global, table: &str) -> Result<(usize, String), Fail> {
+// Whether the row is answered so.
+fn is_answered(alloc: Global, plain: &mut Plain, row: &str, wanted: &str) -> bool {
+    let Some(line) = line_of(alloc, row) else {
+        return false;
+    };
+    match plain.line(alloc, &line) {
+        Ok(answer) => is_told(alloc, &answer, wanted),
+        Err(_) => false,
+    }
+}
+
+// How many rows of a case are answered as they stand there, one after another.
+fn rows_answered(alloc: Global, case: &str) -> usize {
+    let (head, rows) = case.split_once('\n').unwrap_or((case, ""));
+    let Some(mut plain) = begun(alloc, head) else {
+        return 0;
+    };
     let mut count = 0usize;
-    let mut plain = begun(alloc, "pages 1 frames 1 manual 0 hosts 0")?;
-    for row in table.split('\n') {
-        if row.starts_with("pages ") {
-            plain = begun(alloc, row)?;
-        } else if let Some((row, wanted)) = row.split_once(": ") {
-            let came = told(alloc, &mut plain, row)?;
-            if came.as_str() != wanted {
-                return Ok((count, format!(in alloc; "{row}: {came}")?));
+    for row in rows.split('\n') {
+        if let Some((row, wanted)) = row.split_once(": ") {
+            if !is_answered(alloc, &mut plain, row, wanted) {
+                return count;
             }
             count = count.saturating_add(1);
         }
     }
-    Ok((count, String::new(alloc)))
+    count
+}
+
+/// How many rows of the table are answered as they stand there, in each case up to the first that isn't.
+pub fn all_answered(alloc: Global, table: &str) -> usize {
+    let mut count = 0usize;
+    for case in table.split("--\n") {
+        count = count.saturating_add(rows_answered(alloc, case));
+    }
+    count
 }
 
 // A host thread changes its own pages alone: here h0 owns pages 0 to 511, and h1 pages 512 to 1023.
@@ -77,7 +96,7 @@ fn first_other(alloc: Global, table: &str) -> Result<(usize, String), Fail> {
 // one. A large page can be read and written as a small one.
 //
 // The run at page 256 of h0 has pages of h1, and page 255 is none of h1's.
-const HOSTS: &str = "\
+pub const HOSTS: &str = "\
 pages 1024 frames 1040 manual 0 hosts 0 512
 slot 0 0 16 0: done
 move 512 by 0: refused out-of-range
@@ -130,11 +149,6 @@ move 512 by 1: refused is-huge
 huge 0 2 by 2: refused out-of-range
 ";
 
-#[test]
-fn answers_host_lines(rt: HostRuntime) -> Result<(), Fail> {
-    expect_rows(&rt, first_other(rt.alloc(), HOSTS), 45)
-}
-
 // A write or an add makes its page dirty, if its slot has a log, and a get takes out what it
 // reads. A log that is taken away is forgotten. A protected page is not written, and one of a
 // read-only slot isn't either.
@@ -148,7 +162,7 @@ fn answers_host_lines(rt: HostRuntime) -> Result<(), Fail> {
 // Each page of a new log is dirty, and those of another slot's aren't.
 //
 // The same of a log of two words: bit 0 of the second one is of page 64, and its last one of page 99.
-const LOGS: &str = "\
+pub const LOGS: &str = "\
 pages 1024 frames 1040 manual 0 hosts 0
 slot 0 0 16 0: done
 slot 1 32 16 64 ro: done
@@ -250,17 +264,12 @@ clear 3 0 100 0x3 0x800000003: bits 0x1 0x800000002
 get 3: bits 0x0 0x7fffffffc
 ";
 
-#[test]
-fn reads_and_clears_logs(rt: HostRuntime) -> Result<(), Fail> {
-    expect_rows(&rt, first_other(rt.alloc(), LOGS), 90)
-}
-
 // All pages are copied first, and then those that were written since. An access in the pause is not made.
 //
 // Slots, their logs and reading these are barred while a migration goes on, and a round and its end without one.
 //
 // A page that moves, or is evicted, isn't copied again: its content stays. In the pause host threads go on.
-const MIGRATIONS: &str = "\
+pub const MIGRATIONS: &str = "\
 pages 1024 frames 1040 manual 0 hosts 0
 slot 0 0 16 0: done
 log 0 on: done
@@ -309,8 +318,3 @@ resume: done
 resume: refused not-started
 read 3 1: frame 1024 value 9
 ";
-
-#[test]
-fn answers_lines_of_a_migration(rt: HostRuntime) -> Result<(), Fail> {
-    expect_rows(&rt, first_other(rt.alloc(), MIGRATIONS), 42)
-}

@@ -1,20 +1,22 @@
 //! What is kept of a trace that no program shows as it stands: the sizes of its header, the numbers of its lines, how many of
 //! these stand above `go`, and the number of each kind of step.
-use crate::expected::expect_first;
 use core_views::{Actor, Command, Header, HostChange, Line, Op, RunChange, Slot, Trace};
-use std::alloc::Global;
-use std::test::Fail;
+use std::alloc::{AllocError, Global};
 use tdp_io::MemSource;
 use trace_reader::{Read, kind_name, read_trace};
 
-// The trace that the text is.
-fn read(alloc: Global, head: &str, lines: &str) -> Result<Trace, Fail> {
+fn source_of(alloc: Global, head: &str, lines: &str) -> Result<MemSource, AllocError> {
     let mut bytes = head.as_bytes().to_vec(alloc)?;
     bytes.extend_from_slice(lines.as_bytes())?;
-    let mut source = MemSource::new(bytes, Vec::new(alloc));
-    match read_trace(alloc, &mut source)? {
-        Read::Trace(trace) => Ok(trace),
-        Read::Refused { .. } | Read::ReadFault => Err(Fail::new("the text is no trace")),
+    Ok(MemSource::new(bytes, Vec::new(alloc)))
+}
+
+// The trace that the text is.
+fn read(alloc: Global, head: &str, lines: &str) -> Option<Trace> {
+    let mut source = source_of(alloc, head, lines).ok()?;
+    match read_trace(alloc, &mut source) {
+        Ok(Read::Trace(trace)) => Some(trace),
+        _ => None,
     }
 }
 
@@ -95,19 +97,22 @@ fn has_sizes(header: &Header) -> bool {
 const HEAD: &str =
     "tdp 1 vcpus 2 workers 0 pages 96 frames 0x60 words 4 pool 64 cache 8 manual 2 hosts 0 32\n";
 
-// The first of these rows that isn't what is kept of its line, if the trace has as many lines.
-fn first_other(alloc: Global, lines: &str, rows: &[Row<'_>]) -> Result<Option<usize>, Fail> {
-    let trace = read(alloc, HEAD, lines)?;
-    if !has_sizes(&trace.header) || trace.lines.as_slice().len() != rows.len() {
-        return Ok(Some(rows.len()));
-    }
-    for (i, line) in trace.lines.as_slice().iter().enumerate() {
+fn are_kept(lines: &[Line], rows: &[Row<'_>]) -> bool {
+    for (i, line) in lines.iter().enumerate() {
         match rows.get(i) {
             Some(row) if is_kept(line, row) => {}
-            _ => return Ok(Some(i)),
+            _ => return false,
         }
     }
-    Ok(None)
+    lines.len() == rows.len()
+}
+
+// Whether these rows are what is kept of the trace.
+fn is_read(alloc: Global, lines: &str, rows: &[Row<'_>]) -> bool {
+    match read(alloc, HEAD, lines) {
+        Some(trace) => has_sizes(&trace.header) && are_kept(trace.lines.as_slice(), rows),
+        None => false,
+    }
 }
 
 const TRACE: &str = "\
@@ -127,8 +132,8 @@ h0 small 9
 h0 huge 5 2
 ";
 
-#[test]
-fn reads_a_trace(rt: HostRuntime) -> Result<(), Fail> {
+/// Whether each number of a trace is kept.
+pub fn reads_a_trace(alloc: Global) -> bool {
     let rows: [Row<'static>; 12] = [
         (2, Actor::Manager, "slot", [0, 16, 32, 64], &[]),
         (3, Actor::Vcpu(1), "read", [18, 3, 0, 0], &[]),
@@ -143,7 +148,7 @@ fn reads_a_trace(rt: HostRuntime) -> Result<(), Fail> {
         (14, Actor::Host(0), "small", [9, 0, 0, 0], &[]),
         (15, Actor::Host(0), "huge", [5, 2, 0, 0], &[]),
     ];
-    expect_first(&rt, first_other(rt.alloc(), TRACE, &rows))
+    is_read(alloc, TRACE, &rows)
 }
 
 // Of a deletion the ID alone is kept.
@@ -154,15 +159,15 @@ vm slot 0x28 0x5 0x0 0x40 ro
 vm slot 0 0x10 32 64
 ";
 
-#[test]
-fn reads_deletions(rt: HostRuntime) -> Result<(), Fail> {
+/// Whether of deletions the ID alone is kept.
+pub fn reads_deletions(alloc: Global) -> bool {
     let rows: [Row<'static>; 4] = [
         (2, Actor::Manager, "slot", [0, 16, 32, 64], &[]),
         (3, Actor::Manager, "delete", [0, 0, 0, 0], &[]),
         (4, Actor::Manager, "delete", [40, 0, 0, 0], &[]),
         (5, Actor::Manager, "slot", [0, 16, 32, 64], &[]),
     ];
-    expect_first(&rt, first_other(rt.alloc(), DELETIONS, &rows))
+    is_read(alloc, DELETIONS, &rows)
 }
 
 // Each has all its numbers, and a clear its words in their order.
@@ -174,8 +179,8 @@ vm get 0x8
 vm clear 18446744073709551615 3 4 6
 ";
 
-#[test]
-fn reads_what_logs_are_asked_for(rt: HostRuntime) -> Result<(), Fail> {
+/// Whether all is kept that lines ask of dirty logs.
+pub fn reads_what_logs_are_asked_for(alloc: Global) -> bool {
     let rows: [Row<'static>; 5] = [
         (2, Actor::Manager, "get", [7, 0, 0, 0], &[]),
         (3, Actor::Manager, "clear", [32, 64, 65, 0], &[5, u64::MAX]),
@@ -183,28 +188,22 @@ fn reads_what_logs_are_asked_for(rt: HostRuntime) -> Result<(), Fail> {
         (5, Actor::Manager, "get", [8, 0, 0, 0], &[]),
         (6, Actor::Manager, "clear", [u64::MAX, 3, 4, 0], &[6]),
     ];
-    expect_first(&rt, first_other(rt.alloc(), READINGS, &rows))
+    is_read(alloc, READINGS, &rows)
 }
 
 const HEAD_OF_ITEMS: &str =
     "tdp 1 vcpus 2 workers 1 pages 96 frames 96 words 1 pool 64 cache 8 manual 0 hosts 0 32\n";
 
-// The first of these rows with another number of lines, or of those above `go`, which may be nowhere.
-fn first_placed_otherwise(
-    alloc: Global,
-    rows: &[(&str, usize, Option<u32>)],
-) -> Result<Option<usize>, Fail> {
-    for (i, (lines, count, above)) in rows.iter().enumerate() {
-        let trace = read(alloc, HEAD_OF_ITEMS, lines)?;
-        if trace.lines.as_slice().len() != *count || trace.go != *above {
-            return Ok(Some(i));
-        }
+// Whether the trace has so many lines, of which so many stand above `go`, which may be nowhere.
+fn is_placed(alloc: Global, lines: &str, count: usize, above: Option<u32>) -> bool {
+    match read(alloc, HEAD_OF_ITEMS, lines) {
+        Some(trace) => trace.lines.as_slice().len() == count && trace.go == above,
+        None => false,
     }
-    Ok(None)
 }
 
-#[test]
-fn keeps_where_go_stands(rt: HostRuntime) -> Result<(), Fail> {
+/// Whether it is kept where `go` stands.
+pub fn keeps_where_go_stands(alloc: Global) -> bool {
     let rows: [(&str, usize, Option<u32>); 11] = [
         ("\n", 0, None),
         ("go\n", 0, Some(0)),
@@ -230,7 +229,12 @@ fn keeps_where_go_stands(rt: HostRuntime) -> Result<(), Fail> {
             Some(2),
         ),
     ];
-    expect_first(&rt, first_placed_otherwise(rt.alloc(), &rows))
+    for (lines, count, above) in rows {
+        if !is_placed(alloc, lines, count, above) {
+            return false;
+        }
+    }
+    true
 }
 
 // The names of the kinds, in the order of their numbers, which begin with 1.
@@ -238,19 +242,14 @@ const KINDS: &str =
     "enter leave walk read write add begin end control slot host bring swap mark share unshare exclude release \
 claim fill give set zap ask await change copy frame unframe publish watch freeze child thaw reroot take protect pause page peek arm";
 
-// The first number whose kind has another name.
-fn first_misnamed(names: &str) -> Option<usize> {
+/// Whether these are the names of the kinds.
+pub fn knows_each_kind() -> bool {
     let mut code = 0u8;
-    for name in names.split(' ') {
+    for name in KINDS.split(' ') {
         code = code.saturating_add(1);
         if kind_name(code) != name {
-            return Some(code as usize);
+            return false;
         }
     }
-    if code == 41 { None } else { Some(0) }
-}
-
-#[test]
-fn knows_each_kind(rt: HostRuntime) -> Result<(), Fail> {
-    expect_first(&rt, Ok(first_misnamed(KINDS)))
+    code == 41
 }

@@ -29,3 +29,5 @@ mod slot_set_tests;
 mod spte_tests;
 #[cfg(test)]
 mod step_tests;
+#[cfg(test)]
+mod tests;

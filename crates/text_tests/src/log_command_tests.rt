@@ -6,13 +6,11 @@
 //!   are, the bits of the first three words that it asks for, how many of the pages 0 to 255 those are, the
 //!   last of them, and how many words it reads of any log at most.
 
-use crate::cases::{Way, expect_all};
 use crate::command::line_of;
-use crate::expected::expect;
+use crate::rows::numbers;
 use core_views::{Command, LogMode, Sizes, Slot};
 use hands::SlotSet;
 use std::alloc::Global;
-use std::test::Fail;
 
 // A set of five slots, of 100, 64, 127, 64 pages and one page: all but slot 1 have a dirty log.
 fn five_slots() -> SlotSet {
@@ -59,38 +57,45 @@ fn pages_asked(line: &Command) -> (u64, u64) {
 }
 
 // What the line asks for of the log of this slot.
-fn asked(alloc: Global, line: &Command, slot: &Slot) -> Result<String, Fail> {
-    let from = line.first_asked();
-    let bits = line.count_asked(slot);
-    let first = line.mask_asked(slot, 0);
-    let second = line.mask_asked(slot, 1);
-    let third = line.mask_asked(slot, 2);
+fn asked(line: &Command, slot: &Slot) -> [u64; 8] {
     let (pages, last) = pages_asked(line);
-    let most = sizes().most_words(line);
-    Ok(format!(in alloc;
-        "from {from} {bits} bits 0x{first:x} 0x{second:x} 0x{third:x} pages {pages} last {last} most {most}"
-    )?)
+    [
+        line.first_asked(),
+        line.count_asked(slot),
+        line.mask_asked(slot, 0),
+        line.mask_asked(slot, 1),
+        line.mask_asked(slot, 2),
+        pages,
+        last,
+        sizes().most_words(line) as u64,
+    ]
 }
 
-/// What comes of the row.
-pub fn told(alloc: Global, row: &str) -> Result<String, Fail> {
-    let line = line_of(alloc, row)?.command;
-    let Some(id) = line.log_read() else {
-        let most = sizes().most_words(&line);
-        return Ok(format!(in alloc; "reads none most {most}")?);
+// Whether this comes of the line: its numbers, or why it may not read the log.
+fn is_told(alloc: Global, line: &Command, wanted: &str) -> bool {
+    let Ok(numbers) = numbers(alloc, wanted) else {
+        return false;
     };
-    match five_slots().to_read(&line, id) {
-        Ok(found) => asked(alloc, &line, &found.slot),
-        Err(refusal) => {
-            let name = refusal.name();
-            Ok(format!(in alloc; "{name}")?)
-        }
+    let Some(id) = line.log_read() else {
+        return numbers.as_slice() == [sizes().most_words(line) as u64].as_slice();
+    };
+    match five_slots().to_read(line, id) {
+        Ok(found) => numbers.as_slice() == asked(line, &found.slot).as_slice(),
+        Err(refusal) => refusal.name() == wanted,
+    }
+}
+
+/// Whether this comes of the row.
+pub fn comes(alloc: Global, row: &str, wanted: &str) -> bool {
+    match line_of(alloc, row) {
+        Some(line) => is_told(alloc, &line.command, wanted),
+        None => false,
     }
 }
 
 // A get asks for each page. Of bits 35 and 36 the first is that of the last page of slot 0; bits from the count
 // on count for nothing, and a word that isn't given has no bit set.
-const ASKS: &str = "\
+pub const ASKS: &str = "\
 get 0: from 0 100 bits 0xffffffffffffffff 0xfffffffff 0x0 pages 256 last 255 most 17
 get 2: from 0 127 bits 0xffffffffffffffff 0x7fffffffffffffff 0x0 pages 256 last 255 most 17
 get 3: from 0 64 bits 0xffffffffffffffff 0x0 0x0 pages 256 last 255 most 17
@@ -108,14 +113,9 @@ clear 4 0 1 0xffffffffffffffff: from 0 1 bits 0x1 0x0 0x0 pages 1 last 0 most 1
 delete 0: reads none most 0
 ";
 
-#[test]
-fn asks_for_bits_and_pages(rt: HostRuntime) -> Result<(), Fail> {
-    expect_all(&rt, rt.alloc(), Way::Logs, ASKS, 15)
-}
-
 // No slot has the ID; else the slot has no log; else the range begins within a word, ends within one before the
 // slot's end, or reaches past the slot, as where its end is 0 or 100 modulo 2^64.
-const REFUSED: &str = "\
+pub const REFUSED: &str = "\
 get 5: missing
 get 32: missing
 get 0xffffffffffffffff: missing
@@ -136,11 +136,6 @@ clear 0 0xffffffffffffffc0 164: bad-range
 clear 0 64 0xffffffffffffffc0: bad-range
 ";
 
-#[test]
-fn refuses_what_is_no_log(rt: HostRuntime) -> Result<(), Fail> {
-    expect_all(&rt, rt.alloc(), Way::Logs, REFUSED, 18)
-}
-
 // Whether the line takes out what it reads, where logs are automatic, manual, and manual with all set.
 fn takes_out(line: &Command) -> (bool, bool, bool) {
     (
@@ -155,19 +150,15 @@ fn has_far_bits(line: &Command, slot: &Slot) -> bool {
     line.mask_asked(slot, 1 << 58) != 0 || line.mask_asked(slot, (1 << 58) + 1) != 0
 }
 
-// Whether a get and a clear are such lines, and a get has no far bits of slot 0.
-fn tells_by_the_mode(alloc: Global) -> Result<bool, Fail> {
-    let get = line_of(alloc, "get 0")?.command;
-    let clear = line_of(alloc, "clear 0 0 64")?.command;
-    let far = match five_slots().get(0) {
-        Some(found) => has_far_bits(&get, &found.slot),
+/// Whether a get and a clear are such lines, and a get has no far bits of slot 0.
+pub fn takes_out_by_the_mode(alloc: Global) -> bool {
+    let (Some(get), Some(clear)) = (line_of(alloc, "get 0"), line_of(alloc, "clear 0 0 64")) else {
+        return false;
+    };
+    let has_far = match five_slots().get(0) {
+        Some(found) => has_far_bits(&get.command, &found.slot),
         None => true,
     };
-    let is_so = takes_out(&get) == (true, false, false) && takes_out(&clear) == (true, true, true);
-    Ok(is_so && !far)
-}
-
-#[test]
-fn takes_out_by_the_mode(rt: HostRuntime) -> Result<(), Fail> {
-    expect(&rt, tells_by_the_mode(rt.alloc()))
+    let get = takes_out(&get.command) == (true, false, false);
+    get && takes_out(&clear.command) == (true, true, true) && !has_far
 }

@@ -1,9 +1,7 @@
 //! Sets of memory slots: what is set, moved, deleted, logged and refused, and the slot of a
 //! guest frame.
-use crate::expected::expect_first;
 use core_views::{MemorySlot, Refusal, Slot};
 use hands::SlotSet;
-use std::test::Fail;
 
 // How many guest frames there are.
 const FRAMES: u64 = 1 << 36;
@@ -91,18 +89,18 @@ fn made(set: &mut SlotSet, total: u64, call: Call) -> Came {
     }
 }
 
-// The first of these calls, each made after the one before it, of which something else comes than stands here.
-fn first_other(mut set: SlotSet, total: u64, calls: &[(Call, Came)]) -> Option<usize> {
-    for (i, (call, came)) in calls.iter().enumerate() {
+// Whether what comes of these calls, each made after the one before it, is what stands here.
+fn all_come(mut set: SlotSet, total: u64, calls: &[(Call, Came)]) -> bool {
+    for (call, came) in calls {
         if made(&mut set, total, *call) != *came {
-            return Some(i);
+            return false;
         }
     }
-    None
+    true
 }
 
-#[test]
-fn is_empty_at_first(rt: HostRuntime) -> Result<(), Fail> {
+/// Whether the empty set has no slot.
+pub fn is_empty_at_first() -> bool {
     let calls = [
         (Call::Get(0), Came::Nothing),
         (Call::Get(31), Came::Nothing),
@@ -110,11 +108,11 @@ fn is_empty_at_first(rt: HostRuntime) -> Result<(), Fail> {
         (Call::Delete(0), Came::Refused(Refusal::Missing)),
         (Call::Log(0, false), Came::Refused(Refusal::Missing)),
     ];
-    expect_first(&rt, Ok(first_other(SlotSet::empty(), 1024, &calls)))
+    all_come(SlotSet::empty(), 1024, &calls)
 }
 
-#[test]
-fn refuses_a_slot(rt: HostRuntime) -> Result<(), Fail> {
+/// Whether these slots are refused, and change nothing.
+pub fn refuses_a_slot() -> bool {
     let calls = [
         (Call::Get(0), Came::Slot(0, writable(0, 16, 0, false))),
         (
@@ -145,11 +143,11 @@ fn refuses_a_slot(rt: HostRuntime) -> Result<(), Fail> {
         (Call::Delete(1), Came::Refused(Refusal::Missing)),
         (Call::IsFirst, Came::Is(true)),
     ];
-    expect_first(&rt, Ok(first_other(first_slot(), 1024, &calls)))
+    all_come(first_slot(), 1024, &calls)
 }
 
-#[test]
-fn answers_the_first_refusal(rt: HostRuntime) -> Result<(), Fail> {
+/// Whether the first of several refusals is answered.
+pub fn answers_the_first_refusal() -> bool {
     let calls = [
         (Call::Set(1, 100, 16, 64, false), Came::Done),
         (
@@ -182,11 +180,11 @@ fn answers_the_first_refusal(rt: HostRuntime) -> Result<(), Fail> {
             Came::Refused(Refusal::Overlap),
         ),
     ];
-    expect_first(&rt, Ok(first_other(first_slot(), 1024, &calls)))
+    all_come(first_slot(), 1024, &calls)
 }
 
-#[test]
-fn keeps_the_dirty_log(rt: HostRuntime) -> Result<(), Fail> {
+/// Whether a slot keeps its dirty log until this is taken away.
+pub fn keeps_the_dirty_log() -> bool {
     let calls = [
         (Call::Log(0, false), Came::Refused(Refusal::NoLog)),
         (Call::Log(0, true), Came::Done),
@@ -198,12 +196,11 @@ fn keeps_the_dirty_log(rt: HostRuntime) -> Result<(), Fail> {
         (Call::Log(0, false), Came::Done),
         (Call::IsFirst, Came::Is(true)),
     ];
-    expect_first(&rt, Ok(first_other(first_slot(), 1024, &calls)))
+    all_come(first_slot(), 1024, &calls)
 }
 
-// A slot moves, is deleted, and another one is set on its pages.
-#[test]
-fn moves_and_deletes(rt: HostRuntime) -> Result<(), Fail> {
+/// Whether a slot moves, is deleted, and another one is set on its pages.
+pub fn moves_and_deletes() -> bool {
     let calls = [
         (Call::Set(0, 8, 16, 0, false), Came::Done),
         (Call::SlotOf(7), Came::Nothing),
@@ -214,11 +211,11 @@ fn moves_and_deletes(rt: HostRuntime) -> Result<(), Fail> {
         (Call::Set(1, 8, 16, 8, true), Came::Done),
         (Call::Get(0), Came::Nothing),
     ];
-    expect_first(&rt, Ok(first_other(first_slot(), 1024, &calls)))
+    all_come(first_slot(), 1024, &calls)
 }
 
-#[test]
-fn finds_the_slot_of_a_guest_frame(rt: HostRuntime) -> Result<(), Fail> {
+/// Whether the slot of a guest frame is found.
+pub fn finds_the_slot_of_a_guest_frame() -> bool {
     let calls = [
         (Call::Set(7, 16, 16, 64, false), Came::Done),
         (Call::Set(2, 32, 16, 16, false), Came::Done),
@@ -229,11 +226,11 @@ fn finds_the_slot_of_a_guest_frame(rt: HostRuntime) -> Result<(), Fail> {
         (Call::SlotOf(32), Came::Slot(2, writable(32, 16, 16, false))),
         (Call::SlotOf(48), Came::Nothing),
     ];
-    expect_first(&rt, Ok(first_other(first_slot(), 1024, &calls)))
+    all_come(first_slot(), 1024, &calls)
 }
 
-#[test]
-fn sets_the_last_slot(rt: HostRuntime) -> Result<(), Fail> {
+/// Whether the last slot is set at the last guest frame and host page.
+pub fn sets_the_last_slot() -> bool {
     let last = FRAMES - 1;
     let calls = [
         (
@@ -259,11 +256,11 @@ fn sets_the_last_slot(rt: HostRuntime) -> Result<(), Fail> {
             Came::Slot(31, writable(last, 1, 1023, false)),
         ),
     ];
-    expect_first(&rt, Ok(first_other(first_slot(), 1024, &calls)))
+    all_come(first_slot(), 1024, &calls)
 }
 
-#[test]
-fn takes_numbers_of_every_size(rt: HostRuntime) -> Result<(), Fail> {
+/// Whether numbers up to the greatest are taken.
+pub fn takes_numbers_of_every_size() -> bool {
     let calls = [
         (
             Call::Set(1, MAX, MAX, MAX, true),
@@ -287,21 +284,11 @@ fn takes_numbers_of_every_size(rt: HostRuntime) -> Result<(), Fail> {
         (Call::Get(MAX), Came::Nothing),
         (Call::SlotOf(MAX), Came::Nothing),
     ];
-    expect_first(&rt, Ok(first_other(first_slot(), MAX, &calls)))
+    all_come(first_slot(), MAX, &calls)
 }
 
-// The first of these refusals with another name.
-fn first_misnamed(names: &[(Refusal, &str)]) -> Option<usize> {
-    for (i, (refusal, name)) in names.iter().enumerate() {
-        if refusal.name() != *name {
-            return Some(i);
-        }
-    }
-    None
-}
-
-#[test]
-fn names_each_refusal(rt: HostRuntime) -> Result<(), Fail> {
+/// Whether these are the names of refusals.
+pub fn names_each_refusal() -> bool {
     let names = [
         (Refusal::Missing, "missing"),
         (Refusal::Logged, "logged"),
@@ -313,5 +300,10 @@ fn names_each_refusal(rt: HostRuntime) -> Result<(), Fail> {
         (Refusal::IsHuge, "is-huge"),
         (Refusal::NotAligned, "not-aligned"),
     ];
-    expect_first(&rt, Ok(first_misnamed(&names)))
+    for (refusal, name) in names {
+        if refusal.name() != name {
+            return false;
+        }
+    }
+    true
 }

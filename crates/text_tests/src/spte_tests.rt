@@ -1,20 +1,19 @@
 //! Entries, host words, flags and the map of words, by their numbers.
 
-use crate::expected::expect_both;
 use spte_words::{Area, HostWord, SlotFlags, Spte, SpteKind, WordMap};
-use std::test::Fail;
 
-// The first pair of numbers that aren't the same.
-fn first_other(pairs: &[(u64, u64)]) -> Option<usize> {
-    for (i, (found, wanted)) in pairs.iter().enumerate() {
+// Whether the numbers of each pair are the same.
+fn are_same(pairs: &[(u64, u64)]) -> bool {
+    for (found, wanted) in pairs {
         if found != wanted {
-            return Some(i);
+            return false;
         }
     }
-    None
+    true
 }
 
-fn entry_words() -> (Option<usize>, bool) {
+/// Whether entries are these words.
+pub fn entry_words() -> bool {
     let leaf = Spte::leaf(1, 1, true, true, true);
     let words = [
         (leaf.word(), 0x600000000001807),
@@ -23,13 +22,11 @@ fn entry_words() -> (Option<usize>, bool) {
         (Spte::absent().word(), 0),
         (Spte::frozen().word(), 0x5a0),
     ];
-    (
-        first_other(&words),
-        leaf.without_write().with_write() == leaf,
-    )
+    are_same(&words) && leaf.without_write().with_write() == leaf
 }
 
-fn kinds_by_level() -> bool {
+/// Whether entries are of these kinds, by level.
+pub fn kinds_by_level() -> bool {
     let is_table = Spte::from_word(0x3807).kind(4) == SpteKind::Table(3);
     let is_leaf = Spte::from_word(0x3807).kind(1) == SpteKind::Leaf;
     let is_frozen = Spte::from_word(0x5a0).kind(2) == SpteKind::Frozen;
@@ -37,28 +34,30 @@ fn kinds_by_level() -> bool {
     is_table && is_leaf && is_frozen && is_absent
 }
 
-fn large_leaf() -> (Option<usize>, bool) {
+/// Whether a large leaf is read as one.
+pub fn large_leaf() -> bool {
     let large = Spte::from_word(0x600000000200887);
     let numbers = [(large.frame(), 512), (Spte::level_span(3), 262_144)];
     let is_leaf = large.kind(2) == SpteKind::Leaf;
     let is_writable = large.is_writable() && large.is_host_writable() && large.is_mmu_writable();
-    (first_other(&numbers), is_leaf && is_writable)
+    are_same(&numbers) && is_leaf && is_writable
 }
 
+/// Whether children of large leaves are these words.
 #[tactic(auto, using(spte_words::proofs::ReadsEntries::leaf_frame))]
-fn children_of_large_leaves() -> (Option<usize>, bool) {
+pub fn children_of_large_leaves() -> bool {
     let child = Spte::leaf(3, 0x40000, false, true, true).child(3, 2);
     let last = Spte::leaf(2, 512, true, true, true).child(2, 511);
     let words = [
         (child.word(), 0x600000040400885),
         (last.word(), 0x6000000003ff807),
     ];
-    (first_other(&words), true)
+    are_same(&words)
 }
 
-// Rows of an entry, its level, a place, and the word that stands there in a table that is linked in
-// its place: of a large leaf the child, and of any other entry nothing.
-fn words_below() -> Option<usize> {
+/// Whether these are words below entries: rows of an entry, its level, a place, and the word that stands there in a table that is linked in
+/// its place: of a large leaf the child, and of any other entry nothing.
+pub fn words_below() -> bool {
     let rows = [
         (0x600000000200887, 2, 0, 0x600000000200807),
         (0x600000000200887, 2, 1, 0x600000000201807),
@@ -74,15 +73,16 @@ fn words_below() -> Option<usize> {
         (0x5a0, 2, 3, 0),
         (0, 3, 511, 0),
     ];
-    for (i, (entry, level, place, wanted)) in rows.iter().enumerate() {
-        if *place < 512 && Spte::from_word(*entry).below(*level, *place).word() != *wanted {
-            return Some(i);
+    for (entry, level, place, wanted) in rows {
+        if place < 512 && Spte::from_word(entry).below(level, place).word() != wanted {
+            return false;
         }
     }
-    None
+    true
 }
 
-fn host_words() -> (Option<usize>, bool) {
+/// Whether host words are these.
+pub fn host_words() -> bool {
     let host = HostWord::new(5, true, true, 1);
     let huge = HostWord::from_word(0x20000d);
     let numbers = [
@@ -91,23 +91,19 @@ fn host_words() -> (Option<usize>, bool) {
         (huge.frame(), 512),
     ];
     let is_read_only = huge.is_present() && !huge.is_writable();
-    (
-        first_other(&numbers),
-        is_read_only && HostWord::from_word(20487) == host,
-    )
+    are_same(&numbers) && is_read_only && HostWord::from_word(20487) == host
 }
 
-fn slot_flags() -> (Option<usize>, bool) {
+/// Whether flags are these.
+pub fn slot_flags() -> bool {
     let flags = SlotFlags::new(true, false, true);
     let is_so = flags.is_live() && !flags.is_read_only() && flags.is_logged();
-    (
-        first_other(&[(flags.word(), 5)]),
-        is_so && SlotFlags::from_word(5) == flags,
-    )
+    flags.word() == 5 && is_so && SlotFlags::from_word(5) == flags
 }
 
+/// Whether words stand at these places.
 #[tactic(auto, unfolding(spte_words::specs::Areas::total))]
-fn map_places() -> (Option<usize>, bool) {
+pub fn map_places() -> bool {
     let map = WordMap::new(1024, 1040, 1, 64, 5);
     let places = [
         (u64::from(map.word_of_root(0)), 0),
@@ -121,23 +117,5 @@ fn map_places() -> (Option<usize>, bool) {
     ];
     let is_state = map.area_of(12) == (Area::State, 4);
     let is_pool = map.area_of(33902) == (Area::Pool, 32767);
-    (first_other(&places), is_state && is_pool)
-}
-
-#[test]
-fn entries_are_these_words(rt: HostRuntime) -> Result<(), Fail> {
-    expect_both(&rt, entry_words());
-    expect_both(&rt, large_leaf());
-    expect_both(&rt, (None, kinds_by_level()));
-    expect_both(&rt, children_of_large_leaves());
-    expect_both(&rt, (words_below(), true));
-    Ok(())
-}
-
-#[test]
-fn other_words_and_places(rt: HostRuntime) -> Result<(), Fail> {
-    expect_both(&rt, host_words());
-    expect_both(&rt, slot_flags());
-    expect_both(&rt, map_places());
-    Ok(())
+    are_same(&places) && is_state && is_pool
 }

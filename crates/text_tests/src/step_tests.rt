@@ -1,12 +1,9 @@
 //! The lines of steps.
 
-use crate::cases::{Way, expect_all};
-use crate::expected::expect_text;
 use crate::rows::numbers;
-use core_views::{Actor, Answer, LogMode, Refusal, Sizes};
+use core_views::{Actor, Answer, LogMode, NoMemory, Refusal, Sizes};
 use spte_words::{Area, WordMap};
 use std::alloc::Global;
-use std::test::Fail;
 use step_text::{Ending, Row, WordPlace, place_of, push_row};
 
 // Two virtual processors, a host thread, the manager and a worker; two words a frame.
@@ -70,27 +67,38 @@ fn turn(area: Option<Area>, numbers: &[u64]) -> Option<Row> {
 }
 
 // The turn of a case: `KIND AREA INDEX ROLE FOUND LEFT`.
-fn turn_of(alloc: Global, case: &str) -> Result<Row, Fail> {
-    let (_, after) = case.split_once(' ').unwrap_or((case, ""));
-    let (name, _) = after.split_once(' ').unwrap_or((after, ""));
-    let numbers = numbers(alloc, case)?;
-    match turn(area(name), &numbers) {
-        Some(row) => Ok(row),
-        None => Err(Fail::new("this is no turn")),
-    }
+fn turn_of(alloc: Global, case: &str) -> Option<Row> {
+    let (_, after) = case.split_once(' ')?;
+    let (name, _) = after.split_once(' ')?;
+    let numbers = numbers(alloc, case).ok()?;
+    turn(area(name), &numbers)
 }
 
-/// The line of a turn with which its line goes on, without its end.
-pub fn told(alloc: Global, case: &str) -> Result<String, Fail> {
+// The line of a turn.
+fn line(alloc: Global, row: &Row, ending: &Ending<'_>) -> Result<String, NoMemory> {
     let mut text = String::new(alloc);
-    push_row(&mut text, &sizes(), &turn_of(alloc, case)?, &Ending::GoesOn)?;
-    match text.strip_suffix('\n') {
-        Some(line) => Ok(String::from_str(alloc, line)?),
-        None => Ok(text),
+    push_row(&mut text, &sizes(), row, ending)?;
+    Ok(text)
+}
+
+// Whether this is the line of a turn that ends so, without its end.
+fn is_line(alloc: Global, row: &Row, ending: &Ending<'_>, wanted: &str) -> bool {
+    match line(alloc, row, ending) {
+        Ok(text) => text.strip_suffix('\n') == Some(wanted),
+        Err(_) => false,
     }
 }
 
-const ENTRIES: &str = "\
+/// Whether this is the line of the turn with which its line goes on.
+pub fn comes(alloc: Global, case: &str, wanted: &str) -> bool {
+    match turn_of(alloc, case) {
+        Some(row) => is_line(alloc, &row, &Ending::GoesOn, wanted),
+        None => false,
+    }
+}
+
+/// Steps and their lines.
+pub const ENTRIES: &str = "\
 3 pool 0 4 0x4807 0x4807: 1 v0 walk pool[0][0] 0x4807 (link 4)
 3 pool 1553 3 0 0: 1 v0 walk pool[3][17] 0x0 (absent)
 3 pool 511 2 0x5a0 0x5a0: 1 v0 walk pool[0][511] 0x5a0 (frozen)
@@ -104,12 +112,8 @@ const ENTRIES: &str = "\
 20 pool 515 6 0x4807 0: 1 v0 fill pool[1][3] 0x4807 -> 0x0
 ";
 
-#[test]
-fn tells_entries_by_the_role_of_their_page(rt: HostRuntime) -> Result<(), Fail> {
-    expect_all(&rt, rt.alloc(), Way::Steps, ENTRIES, 11)
-}
-
-const STATES: &str = "\
+/// Steps and their lines.
+pub const STATES: &str = "\
 11 host 5 0 0x5007 0x5007: 1 v0 host host[5] 0x5007 (frame 5 rw)
 12 host 5 0 0x5006 0x5007: 1 v0 bring host[5] 0x5006 (absent frame 5 rw) -> 0x5007 (frame 5 rw)
 26 host 6 0 0x6007 0x6005: 1 v0 change host[6] 0x6007 (frame 6 rw) -> 0x6005 (frame 6 ro)
@@ -122,12 +126,8 @@ const STATES: &str = "\
 31 state 4 0 1 1: 1 v0 watch state[w0] 0x1 (in guest)
 ";
 
-#[test]
-fn tells_host_words_and_state_words(rt: HostRuntime) -> Result<(), Fail> {
-    expect_all(&rt, rt.alloc(), Way::Steps, STATES, 10)
-}
-
-const OTHERS: &str = "\
+/// Steps and their lines.
+pub const OTHERS: &str = "\
 9 root 0 0 0 0: 1 v0 control root 0x0
 30 slots 0 0 1 2: 1 v0 publish slots 0x1 -> 0x2
 22 seq 0 0 9 10: 1 v0 set seq 0x9 -> 0xa
@@ -143,13 +143,8 @@ const OTHERS: &str = "\
 5 content 11 0 0 0xffffffffffffffff: 1 v0 write content[5][1] 0x0 -> 0xffffffffffffffff
 ";
 
-#[test]
-fn tells_other_words_by_their_number(rt: HostRuntime) -> Result<(), Fail> {
-    expect_all(&rt, rt.alloc(), Way::Steps, OTHERS, 13)
-}
-
-// How a turn of v0 on the lock is told, for each way in which it ends.
-fn endings_told(alloc: Global) -> Result<String, Fail> {
+/// Whether a turn of v0 on the lock is told so, for each way in which it ends.
+pub fn tells_how_turns_end(alloc: Global) -> bool {
     let reached = Answer::Reached { frame: 1, value: 0 };
     let refused = Answer::Refused(Refusal::BadId);
     let place = WordPlace {
@@ -157,45 +152,50 @@ fn endings_told(alloc: Global) -> Result<String, Fail> {
         index: 0,
     };
     let endings = [
-        Ending::GoesOn,
-        Ending::Waits,
-        Ending::Open {
-            count: 1,
-            start: 16,
-            end: 32,
-        },
-        Ending::Moved { old: 0, now: 1 },
-        Ending::Lost {
-            place,
-            read: 0,
-            seen: 0x803,
-        },
-        Ending::Answers(&reached),
-        Ending::Answers(&Answer::Done),
-        Ending::Answers(&refused),
+        (Ending::GoesOn, "1 v0 share lock 0x2 -> 0x3"),
+        (Ending::Waits, "1 v0 share lock 0x2 -> 0x3 waits"),
+        (
+            Ending::Open {
+                count: 1,
+                start: 16,
+                end: 32,
+            },
+            "1 v0 share lock 0x2 -> 0x3 begins anew (1 open over 16 to 32)",
+        ),
+        (
+            Ending::Moved { old: 0, now: 1 },
+            "1 v0 share lock 0x2 -> 0x3 begins anew (moved 0 to 1)",
+        ),
+        (
+            Ending::Lost {
+                place,
+                read: 0,
+                seen: 0x803,
+            },
+            "1 v0 share lock 0x2 -> 0x3 begins anew (pool[0][0] held 0x0, holds 0x803)",
+        ),
+        (
+            Ending::Answers(&reached),
+            "1 v0 share lock 0x2 -> 0x3 answers frame 1 value 0",
+        ),
+        (
+            Ending::Answers(&Answer::Done),
+            "1 v0 share lock 0x2 -> 0x3 answers done",
+        ),
+        (
+            Ending::Answers(&refused),
+            "1 v0 share lock 0x2 -> 0x3 answers refused bad-id",
+        ),
     ];
-    let row = turn_of(alloc, "15 lock 0 0 2 3")?;
-    let mut text = String::new(alloc);
-    for ending in endings {
-        push_row(&mut text, &sizes(), &row, &ending)?;
+    let Some(row) = turn_of(alloc, "15 lock 0 0 2 3") else {
+        return false;
+    };
+    for (ending, wanted) in endings {
+        if !is_line(alloc, &row, &ending, wanted) {
+            return false;
+        }
     }
-    Ok(text)
-}
-
-const ENDINGS: &str = "\
-1 v0 share lock 0x2 -> 0x3
-1 v0 share lock 0x2 -> 0x3 waits
-1 v0 share lock 0x2 -> 0x3 begins anew (1 open over 16 to 32)
-1 v0 share lock 0x2 -> 0x3 begins anew (moved 0 to 1)
-1 v0 share lock 0x2 -> 0x3 begins anew (pool[0][0] held 0x0, holds 0x803)
-1 v0 share lock 0x2 -> 0x3 answers frame 1 value 0
-1 v0 share lock 0x2 -> 0x3 answers done
-1 v0 share lock 0x2 -> 0x3 answers refused bad-id
-";
-
-#[test]
-fn tells_how_turns_end(rt: HostRuntime) -> Result<(), Fail> {
-    expect_text(&rt, endings_told(rt.alloc()), ENDINGS)
+    true
 }
 
 // So many fills of an actor, from a turn and a word on.
@@ -212,47 +212,58 @@ fn fills(first: u64, count: u32, actor: Actor, area: Area, index: u32, left: u64
     }
 }
 
-fn fills_told(alloc: Global) -> Result<String, Fail> {
+/// Whether fills are told as one line.
+pub fn tells_fills(alloc: Global) -> bool {
     let rows = [
-        fills(21, 512, Actor::Vcpu(0), Area::Pool, 1024, 0),
-        fills(40, 2, Actor::Host(0), Area::Content, 10, 7),
-        fills(533, 1, Actor::Manager, Area::Pool, 1025, 1),
-        fills(u64::MAX, 2, Actor::Worker(0), Area::Pool, 32766, u64::MAX),
+        (
+            fills(21, 512, Actor::Vcpu(0), Area::Pool, 1024, 0),
+            "21-532 v0 fill pool[2][0..511] 0x0",
+        ),
+        (
+            fills(40, 2, Actor::Host(0), Area::Content, 10, 7),
+            "40-41 h0 fill content[5][0..1] 0x0 -> 0x7",
+        ),
+        (
+            fills(533, 1, Actor::Manager, Area::Pool, 1025, 1),
+            "533 vm fill pool[2][1] 0x0 -> 0x1",
+        ),
+        (
+            fills(u64::MAX, 2, Actor::Worker(0), Area::Pool, 32766, u64::MAX),
+            "18446744073709551615-18446744073709551616 w0 fill pool[63][510..511] 0x0 -> 0xffffffffffffffff",
+        ),
     ];
-    let mut text = String::new(alloc);
-    for row in rows {
-        push_row(&mut text, &sizes(), &row, &Ending::GoesOn)?;
+    for (row, wanted) in rows {
+        if !is_line(alloc, &row, &Ending::GoesOn, wanted) {
+            return false;
+        }
     }
-    Ok(text)
+    true
 }
 
-const FILLS: &str = "\
-21-532 v0 fill pool[2][0..511] 0x0
-40-41 h0 fill content[5][0..1] 0x0 -> 0x7
-533 vm fill pool[2][1] 0x0 -> 0x1
-18446744073709551615-18446744073709551616 w0 fill pool[63][510..511] 0x0 -> 0xffffffffffffffff
-";
-
-#[test]
-fn tells_fills_as_one_line(rt: HostRuntime) -> Result<(), Fail> {
-    expect_text(&rt, fills_told(rt.alloc()), FILLS)
-}
-
-// The area of each of these words, and which word of the area it is.
+// Whether this word is the one with this number of the area.
 #[tactic(auto, unfolding(spte_words::specs::Areas::total))]
-fn places(alloc: Global) -> Result<String, Fail> {
-    let mut text = String::new(alloc);
-    for word in [0, 7, 8, 12, 13, 47, 33_902, 33_903, 34_942] {
-        let place = place_of(&WordMap::new(1024, 1040, 1, 64, 5), word % 34_943);
-        let (area, index) = (place.area, place.index);
-        text.push_str(&format!(in alloc; "{area:?} {index}, ")?)?;
-    }
-    Ok(text)
+fn is_at(word: u32, area: Area, index: u32) -> bool {
+    let place = place_of(&WordMap::new(1024, 1040, 1, 64, 5), word % 34_943);
+    place.area == area && place.index == index
 }
 
-#[test]
-fn finds_places(rt: HostRuntime) -> Result<(), Fail> {
-    let wanted =
-        "Root 0, Pause 0, State 0, State 4, PoolMap 0, Host 0, Pool 32767, Content 0, Content 1039, ";
-    expect_text(&rt, places(rt.alloc()), wanted)
+/// Whether these words are found in their areas.
+pub fn finds_places() -> bool {
+    let places = [
+        (0, Area::Root, 0),
+        (7, Area::Pause, 0),
+        (8, Area::State, 0),
+        (12, Area::State, 4),
+        (13, Area::PoolMap, 0),
+        (47, Area::Host, 0),
+        (33_902, Area::Pool, 32_767),
+        (33_903, Area::Content, 0),
+        (34_942, Area::Content, 1039),
+    ];
+    for (word, area, index) in places {
+        if !is_at(word, area, index) {
+            return false;
+        }
+    }
+    true
 }
