@@ -96,7 +96,7 @@ struct Closed {
     words: usize,
 }
 
-fn closed(closing: &Closing) -> Closed {
+fn found_in(closing: &Closing) -> Closed {
     let hands = closing.hands.as_slice();
     let words = closing.words.as_slice();
     Closed {
@@ -113,7 +113,7 @@ fn run_accesses(alloc: Global) -> Option<Closed> {
         return None;
     };
     match run(alloc, &trace) {
-        Ok(Some(closing)) => Some(closed(&closing)),
+        Ok(Some(closing)) => Some(found_in(&closing)),
         _ => None,
     }
 }
