@@ -1,5 +1,5 @@
 //! The text of several answers. What programs print is cases.
-use core_views::{Actor, Answer, Answered, AnsweredLine, NoMemory, Refusal};
+use core_views::{Actor, Answer, Answered, AnsweredLine, Refusal};
 use std::alloc::Global;
 use trace_text::text;
 
@@ -11,22 +11,16 @@ fn line(number: u32, actor: Actor, answer: Answer) -> AnsweredLine {
     }
 }
 
-fn four_lines(alloc: Global) -> Result<String, NoMemory> {
+/// Whether four lines are printed one after another.
+pub fn prints_line_after_line(alloc: Global) -> Option<bool> {
     let lines = vec![in alloc;
         line(2, Actor::Manager, Answer::Refused(Refusal::BadId)),
         line(3, Actor::Worker(0), Answer::Done),
         line(4, Actor::Manager, Answer::Refused(Refusal::Overlap)),
         line(4, Actor::Manager, Answer::Refused(Refusal::HostOverlap)),
-    ]?;
-    text(alloc, &Answered::from_vec(lines))
-}
-
-/// Whether four lines are printed one after another.
-pub fn prints_line_after_line(alloc: Global) -> bool {
+    ];
+    let text = text(alloc, &Answered::from_vec(lines.ok()?)).ok()?;
     let wanted =
         "2 vm refused bad-id\n3 w0 done\n4 vm refused overlap\n4 vm refused host-overlap\n";
-    match four_lines(alloc) {
-        Ok(text) => text.as_str() == wanted,
-        Err(_) => false,
-    }
+    Some(text.as_str() == wanted)
 }

@@ -88,7 +88,7 @@ fn host_change(row: &str, numbers: &[u64]) -> Option<Command>
     Some(Command::ChangeHost { page, change })
 }
 
-// The command of a dirty log.
+// The command of a dirty log, or of a migration.
 fn log_command(alloc: Global, row: &str, numbers: &[u64]) -> Option<Command>
     ensures { IfSome result (λ command. IsInRange command) }
 {
@@ -104,30 +104,19 @@ fn log_command(alloc: Global, row: &str, numbers: &[u64]) -> Option<Command>
             count: *count,
             words: Words::from_vec(words.to_vec(alloc).ok()?),
         }),
+        ("start", _) => Some(Command::Migrate {
+            call: MigrationCall::Start,
+        }),
+        ("round", _) => Some(Command::Migrate {
+            call: MigrationCall::Round,
+        }),
+        ("finish", _) => Some(Command::Migrate {
+            call: MigrationCall::Finish,
+        }),
+        ("resume", _) => Some(Command::Migrate {
+            call: MigrationCall::Resume,
+        }),
         _ => None,
-    }
-}
-
-fn migration(word: &str) -> Command
-    ensures { IsInRange result }
-{
-    let call = match word {
-        "start" => MigrationCall::Start,
-        "round" => MigrationCall::Round,
-        "finish" => MigrationCall::Finish,
-        _ => MigrationCall::Resume,
-    };
-    Command::Migrate { call }
-}
-
-// The actor of the command: of a host thread the number stands last.
-fn actor_of(command: &Command, numbers: &[u64]) -> Actor {
-    match command {
-        Command::Access { .. } => Actor::Vcpu(0),
-        Command::ChangeHost { .. } | Command::ChangeRun { .. } => {
-            Actor::Host(small(numbers.last().copied().unwrap_or(255)))
-        }
-        _ => Actor::Manager,
     }
 }
 
@@ -138,18 +127,23 @@ fn command(alloc: Global, row: &str, numbers: &[u64]) -> Option<Command>
     match verb(row) {
         "slot" | "delete" | "read" | "write" | "add" => change(row, numbers),
         "allow" | "protect" | "evict" | "move" | "huge" | "small" => host_change(row, numbers),
-        "log" | "get" | "clear" => log_command(alloc, row, numbers),
-        word => Some(migration(word)),
+        _ => log_command(alloc, row, numbers),
     }
 }
 
-/// The line of a row, if it is one.
+/// The line of a row, if it is one. Of a host thread the number stands last.
 pub fn line_of(alloc: Global, row: &str) -> Option<Line>
     ensures { IfSome result (λ line. IsInRange line.command) }
 {
     let numbers = numbers(alloc, row).ok()?;
     let command = command(alloc, row, &numbers)?;
-    let actor = actor_of(&command, &numbers);
+    let actor = match &command {
+        Command::Access { .. } => Actor::Vcpu(0),
+        Command::ChangeHost { .. } | Command::ChangeRun { .. } => {
+            Actor::Host(small(numbers.last().copied().unwrap_or(255)))
+        }
+        _ => Actor::Manager,
+    };
     Some(Line {
         number: 3,
         actor,

@@ -5,7 +5,7 @@
 //! `examples/cases/flat-answers.cases`.
 use crate::command::{line_of, small};
 use crate::rows::numbers;
-use core_views::{Answer, Header, Lines, Trace, Words};
+use core_views::{Header, Lines, Trace, Words};
 use flat_model::Plain;
 use std::alloc::Global;
 
@@ -25,42 +25,24 @@ pub fn header(pages: u64, frames: u64, manual: u8, hosts: Vec<u64>) -> Header {
     }
 }
 
-// The header with which a case begins.
-fn header_of(alloc: Global, head: &str) -> Option<Header> {
-    let numbers = numbers(alloc, head).ok()?;
-    match numbers.as_slice() {
-        [pages, frames, manual, hosts @ ..] => {
-            let hosts = hosts.to_vec(alloc).ok()?;
-            Some(header(*pages, *frames, small(*manual), hosts))
-        }
-        _ => None,
-    }
-}
-
 // The memory with which a case begins.
 fn begun(alloc: Global, head: &str) -> Option<Plain> {
-    let header = header_of(alloc, head)?;
+    let numbers = numbers(alloc, head).ok()?;
+    let [pages, frames, manual, hosts @ ..] = numbers.as_slice() else {
+        return None;
+    };
+    let hosts = hosts.to_vec(alloc).ok()?;
+    let header = header(*pages, *frames, small(*manual), hosts);
     let trace = Trace::unscheduled(alloc, header, Lines::from_vec(Vec::new(alloc)));
     Plain::new(alloc, &trace).ok()
 }
 
-// Whether this is the text of the answer.
-fn is_told(alloc: Global, answer: &Answer, wanted: &str) -> bool {
-    match format!(in alloc; "{answer}") {
-        Ok(text) => text.as_str() == wanted,
-        Err(_) => false,
-    }
-}
-
 // Whether the row is answered so.
-fn is_answered(alloc: Global, plain: &mut Plain, row: &str, wanted: &str) -> bool {
-    let Some(line) = line_of(alloc, row) else {
-        return false;
-    };
-    match plain.line(alloc, &line) {
-        Ok(answer) => is_told(alloc, &answer, wanted),
-        Err(_) => false,
-    }
+fn is_answered(alloc: Global, plain: &mut Plain, row: &str, wanted: &str) -> Option<bool> {
+    let line = line_of(alloc, row)?;
+    let answer = plain.line(alloc, &line).ok()?;
+    let text = format!(in alloc; "{answer}").ok()?;
+    Some(text.as_str() == wanted)
 }
 
 // How many rows of a case are answered as they stand there, one after another.
@@ -72,7 +54,7 @@ fn rows_answered(alloc: Global, case: &str) -> usize {
     let mut count = 0usize;
     for row in rows.split('\n') {
         if let Some((row, wanted)) = row.split_once(": ") {
-            if !is_answered(alloc, &mut plain, row, wanted) {
+            if is_answered(alloc, &mut plain, row, wanted) != Some(true) {
                 return count;
             }
             count = count.saturating_add(1);

@@ -60,10 +60,11 @@ pub fn writes_one_of_two(alloc: Global) -> Result<bool, NoMemory> {
     Ok(is_failed && sink.bytes() == b"one ".as_slice())
 }
 
-/// Whether a reader that fails is told.
-pub fn fails_to_read() -> bool {
+/// Whether it is told that a reader fails, and that a writer does.
+pub fn tells_failures() -> bool {
     let mut buf = [0; 2];
-    StdSource::new(Broken).read(&mut buf) == Pulled::Failed
+    let fails = StdSource::new(Broken).read(&mut buf) == Pulled::Failed;
+    fails && StdSink::new(Broken).write(b"abc") == Output::Failed
 }
 
 /// Whether a reader gives its bytes, and its end.
@@ -73,11 +74,6 @@ pub fn reads_abc() -> bool {
     let has_two = source.read(&mut buf) == Pulled::Got(2) && buf == [97, 98];
     let has_one = source.read(&mut buf) == Pulled::Got(1) && buf[0] == 99;
     has_two && has_one && source.read(&mut buf) == Pulled::End
-}
-
-/// Whether a writer that fails is told.
-pub fn fails_to_write() -> bool {
-    StdSink::new(Broken).write(b"abc") == Output::Failed
 }
 
 /// Whether a writer takes what it has room for. It has room for four bytes, and takes nothing then.

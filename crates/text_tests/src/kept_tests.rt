@@ -1,19 +1,15 @@
 //! What is kept of a trace that no program shows as it stands: the sizes of its header, the numbers of its lines, how many of
 //! these stand above `go`, and the number of each kind of step.
-use core_views::{Actor, Command, Header, HostChange, Line, Op, RunChange, Slot, Trace};
-use std::alloc::{AllocError, Global};
+use core_views::{Actor, Command, Header, HostChange, Line, Op, RunChange, Trace};
+use std::alloc::Global;
 use tdp_io::MemSource;
 use trace_reader::{Read, kind_name, read_trace};
 
-fn source_of(alloc: Global, head: &str, lines: &str) -> Result<MemSource, AllocError> {
-    let mut bytes = head.as_bytes().to_vec(alloc)?;
-    bytes.extend_from_slice(lines.as_bytes())?;
-    Ok(MemSource::new(bytes, Vec::new(alloc)))
-}
-
 // The trace that the text is.
 fn read(alloc: Global, head: &str, lines: &str) -> Option<Trace> {
-    let mut source = source_of(alloc, head, lines).ok()?;
+    let mut bytes = head.as_bytes().to_vec(alloc).ok()?;
+    bytes.extend_from_slice(lines.as_bytes()).ok()?;
+    let mut source = MemSource::new(bytes, Vec::new(alloc));
     match read_trace(alloc, &mut source) {
         Ok(Read::Trace(trace)) => Some(trace),
         _ => None,
@@ -29,11 +25,6 @@ fn access(gfn: u64, word: u8, op: Op) -> (&'static str, [u64; 4]) {
     }
 }
 
-fn slot(id: u64, slot: &Slot) -> (&'static str, [u64; 4]) {
-    let word = if slot.read_only { "slot ro" } else { "slot" };
-    (word, [id, slot.base, slot.pages, slot.host])
-}
-
 fn change_name(change: HostChange) -> &'static str {
     match change {
         HostChange::Allow => "allow",
@@ -47,7 +38,10 @@ fn change_name(change: HostChange) -> &'static str {
 fn kept(command: &Command) -> (&'static str, [u64; 4]) {
     match command {
         Command::Access { gfn, word, op } => access(*gfn, *word, *op),
-        Command::SetSlot { id, slot: found } => slot(*id, found),
+        Command::SetSlot { id, slot } => {
+            let word = if slot.read_only { "slot ro" } else { "slot" };
+            (word, [*id, slot.base, slot.pages, slot.host])
+        }
         Command::DeleteSlot { id } => ("delete", [*id, 0, 0, 0]),
         Command::ChangeHost { page, change } => (change_name(*change), [*page, 0, 0, 0]),
         Command::ChangeRun { page, change } => match change {
@@ -68,22 +62,18 @@ fn kept(command: &Command) -> (&'static str, [u64; 4]) {
     }
 }
 
-// The words of a clear.
-fn words(command: &Command) -> &[u64] {
-    match command {
+/// The number of a line and its actor, what is kept of its command, and the words of a clear.
+pub type Row = (u32, Actor, &'static str, [u64; 4], &'static [u64]);
+
+fn is_kept(line: &Line, row: &Row) -> bool {
+    let (number, actor, name, numbers, all) = *row;
+    let (word, found) = kept(&line.command);
+    let words = match &line.command {
         Command::ClearLog { words, .. } => words.as_slice(),
         _ => &[],
-    }
-}
-
-// The number of a line and its actor, what is kept of its command, and the words of a clear.
-type Row<'a> = (u32, Actor, &'a str, [u64; 4], &'a [u64]);
-
-fn is_kept(line: &Line, row: &Row<'_>) -> bool {
-    let (number, actor, name, numbers, all) = row;
-    let (word, found) = kept(&line.command);
-    let is_line = line.number == *number && line.actor == *actor;
-    is_line && word == *name && found == *numbers && words(&line.command) == *all
+    };
+    let is_line = line.number == number && line.actor == actor;
+    is_line && word == name && found == numbers && words == all
 }
 
 // The header's numbers of 96 pages of four words.
@@ -97,7 +87,7 @@ fn has_sizes(header: &Header) -> bool {
 const HEAD: &str =
     "tdp 1 vcpus 2 workers 0 pages 96 frames 0x60 words 4 pool 64 cache 8 manual 2 hosts 0 32\n";
 
-fn are_kept(lines: &[Line], rows: &[Row<'_>]) -> bool {
+fn are_kept(lines: &[Line], rows: &[Row]) -> bool {
     for (i, line) in lines.iter().enumerate() {
         match rows.get(i) {
             Some(row) if is_kept(line, row) => {}
@@ -107,15 +97,16 @@ fn are_kept(lines: &[Line], rows: &[Row<'_>]) -> bool {
     lines.len() == rows.len()
 }
 
-// Whether these rows are what is kept of the trace.
-fn is_read(alloc: Global, lines: &str, rows: &[Row<'_>]) -> bool {
+/// Whether these rows are what is kept of the trace.
+pub fn is_read(alloc: Global, lines: &str, rows: &[Row]) -> bool {
     match read(alloc, HEAD, lines) {
         Some(trace) => has_sizes(&trace.header) && are_kept(trace.lines.as_slice(), rows),
         None => false,
     }
 }
 
-const TRACE: &str = "\
+/// Lines of each form.
+pub const TRACE: &str = "\
 vm slot 0 0x10 32 64
 v1 read 0x12018
 v0 write 8 0xff
@@ -132,46 +123,40 @@ h0 small 9
 h0 huge 5 2
 ";
 
-/// Whether each number of a trace is kept.
-pub fn reads_a_trace(alloc: Global) -> bool {
-    let rows: [Row<'static>; 12] = [
-        (2, Actor::Manager, "slot", [0, 16, 32, 64], &[]),
-        (3, Actor::Vcpu(1), "read", [18, 3, 0, 0], &[]),
-        (4, Actor::Vcpu(0), "write", [0, 1, 255, 0], &[]),
-        (7, Actor::Vcpu(0), "add", [0, 0, u64::MAX, 0], &[]),
-        (8, Actor::Host(1), "allow", [42, 0, 0, 0], &[]),
-        (9, Actor::Host(0), "evict", [7, 0, 0, 0], &[]),
-        (10, Actor::Host(1), "move", [9, 0, 0, 0], &[]),
-        (11, Actor::Manager, "logon", [32, 0, 0, 0], &[]),
-        (12, Actor::Manager, "logoff", [5, 0, 0, 0], &[]),
-        (13, Actor::Host(1), "huge", [512, 3, 0, 0], &[]),
-        (14, Actor::Host(0), "small", [9, 0, 0, 0], &[]),
-        (15, Actor::Host(0), "huge", [5, 2, 0, 0], &[]),
-    ];
-    is_read(alloc, TRACE, &rows)
-}
+/// What is kept of it.
+pub const KEPT: [Row; 12] = [
+    (2, Actor::Manager, "slot", [0, 16, 32, 64], &[]),
+    (3, Actor::Vcpu(1), "read", [18, 3, 0, 0], &[]),
+    (4, Actor::Vcpu(0), "write", [0, 1, 255, 0], &[]),
+    (7, Actor::Vcpu(0), "add", [0, 0, u64::MAX, 0], &[]),
+    (8, Actor::Host(1), "allow", [42, 0, 0, 0], &[]),
+    (9, Actor::Host(0), "evict", [7, 0, 0, 0], &[]),
+    (10, Actor::Host(1), "move", [9, 0, 0, 0], &[]),
+    (11, Actor::Manager, "logon", [32, 0, 0, 0], &[]),
+    (12, Actor::Manager, "logoff", [5, 0, 0, 0], &[]),
+    (13, Actor::Host(1), "huge", [512, 3, 0, 0], &[]),
+    (14, Actor::Host(0), "small", [9, 0, 0, 0], &[]),
+    (15, Actor::Host(0), "huge", [5, 2, 0, 0], &[]),
+];
 
-// Of a deletion the ID alone is kept.
-const DELETIONS: &str = "\
+/// Of a deletion the ID alone is kept.
+pub const DELETIONS: &str = "\
 vm slot 0 0x10 32 64
 vm slot 0 0 0 0
 vm slot 0x28 0x5 0x0 0x40 ro
 vm slot 0 0x10 32 64
 ";
 
-/// Whether of deletions the ID alone is kept.
-pub fn reads_deletions(alloc: Global) -> bool {
-    let rows: [Row<'static>; 4] = [
-        (2, Actor::Manager, "slot", [0, 16, 32, 64], &[]),
-        (3, Actor::Manager, "delete", [0, 0, 0, 0], &[]),
-        (4, Actor::Manager, "delete", [40, 0, 0, 0], &[]),
-        (5, Actor::Manager, "slot", [0, 16, 32, 64], &[]),
-    ];
-    is_read(alloc, DELETIONS, &rows)
-}
+/// What is kept of it.
+pub const KEPT_DELETIONS: [Row; 4] = [
+    (2, Actor::Manager, "slot", [0, 16, 32, 64], &[]),
+    (3, Actor::Manager, "delete", [0, 0, 0, 0], &[]),
+    (4, Actor::Manager, "delete", [40, 0, 0, 0], &[]),
+    (5, Actor::Manager, "slot", [0, 16, 32, 64], &[]),
+];
 
-// Each has all its numbers, and a clear its words in their order.
-const READINGS: &str = "\
+/// Each has all its numbers, and a clear its words in their order.
+pub const READINGS: &str = "\
 vm get 7
 vm clear 0x20 64 0x41 5 0xffffffffffffffff
 vm clear 1 2 0
@@ -179,28 +164,17 @@ vm get 0x8
 vm clear 18446744073709551615 3 4 6
 ";
 
-/// Whether all is kept that lines ask of dirty logs.
-pub fn reads_what_logs_are_asked_for(alloc: Global) -> bool {
-    let rows: [Row<'static>; 5] = [
-        (2, Actor::Manager, "get", [7, 0, 0, 0], &[]),
-        (3, Actor::Manager, "clear", [32, 64, 65, 0], &[5, u64::MAX]),
-        (4, Actor::Manager, "clear", [1, 2, 0, 0], &[]),
-        (5, Actor::Manager, "get", [8, 0, 0, 0], &[]),
-        (6, Actor::Manager, "clear", [u64::MAX, 3, 4, 0], &[6]),
-    ];
-    is_read(alloc, READINGS, &rows)
-}
+/// What is kept of it.
+pub const KEPT_READINGS: [Row; 5] = [
+    (2, Actor::Manager, "get", [7, 0, 0, 0], &[]),
+    (3, Actor::Manager, "clear", [32, 64, 65, 0], &[5, u64::MAX]),
+    (4, Actor::Manager, "clear", [1, 2, 0, 0], &[]),
+    (5, Actor::Manager, "get", [8, 0, 0, 0], &[]),
+    (6, Actor::Manager, "clear", [u64::MAX, 3, 4, 0], &[6]),
+];
 
 const HEAD_OF_ITEMS: &str =
     "tdp 1 vcpus 2 workers 1 pages 96 frames 96 words 1 pool 64 cache 8 manual 0 hosts 0 32\n";
-
-// Whether the trace has so many lines, of which so many stand above `go`, which may be nowhere.
-fn is_placed(alloc: Global, lines: &str, count: usize, above: Option<u32>) -> bool {
-    match read(alloc, HEAD_OF_ITEMS, lines) {
-        Some(trace) => trace.lines.as_slice().len() == count && trace.go == above,
-        None => false,
-    }
-}
 
 /// Whether it is kept where `go` stands.
 pub fn keeps_where_go_stands(alloc: Global) -> bool {
@@ -230,7 +204,11 @@ pub fn keeps_where_go_stands(alloc: Global) -> bool {
         ),
     ];
     for (lines, count, above) in rows {
-        if !is_placed(alloc, lines, count, above) {
+        let is_placed = match read(alloc, HEAD_OF_ITEMS, lines) {
+            Some(trace) => trace.lines.as_slice().len() == count && trace.go == above,
+            None => false,
+        };
+        if !is_placed {
             return false;
         }
     }

@@ -6,8 +6,6 @@
 #[cfg(test)]
 mod answer_tests;
 #[cfg(test)]
-mod cases;
-#[cfg(test)]
 mod command;
 #[cfg(test)]
 mod expected;

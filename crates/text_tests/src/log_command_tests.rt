@@ -28,23 +28,21 @@ fn five_slots() -> SlotSet {
 }
 
 // The sizes of a machine of 1024 host pages.
-fn sizes() -> Sizes {
-    Sizes {
-        pages: 1024,
-        frames: 1040,
-        words: 2,
-        pool: 64,
-        cache: 64,
-        vcpus: 1,
-        hosts: 1,
-        workers: 0,
-        mode: LogMode::Manual,
-        first_pages: [0, 1024, 1024, 1024],
-    }
-}
+const SIZES: Sizes = Sizes {
+    pages: 1024,
+    frames: 1040,
+    words: 2,
+    pool: 64,
+    cache: 64,
+    vcpus: 1,
+    hosts: 1,
+    workers: 0,
+    mode: LogMode::Manual,
+    first_pages: [0, 1024, 1024, 1024],
+};
 
-// How many of the pages 0 to 255 the line asks for, and the last of them; 0 where there is none.
-fn pages_asked(line: &Command) -> (u64, u64) {
+// What the line asks for of the log of this slot, and how many of the pages 0 to 255, of which the last is 0 where there is none.
+fn asked(line: &Command, slot: &Slot) -> [u64; 8] {
     let mut count = 0u64;
     let mut last = 0;
     for page in 0..256u64 {
@@ -53,44 +51,43 @@ fn pages_asked(line: &Command) -> (u64, u64) {
             last = page;
         }
     }
-    (count, last)
-}
-
-// What the line asks for of the log of this slot.
-fn asked(line: &Command, slot: &Slot) -> [u64; 8] {
-    let (pages, last) = pages_asked(line);
     [
         line.first_asked(),
         line.count_asked(slot),
         line.mask_asked(slot, 0),
         line.mask_asked(slot, 1),
         line.mask_asked(slot, 2),
-        pages,
+        count,
         last,
-        sizes().most_words(line) as u64,
+        SIZES.most_words(line) as u64,
     ]
 }
 
-// Whether this comes of the line: its numbers, or why it may not read the log.
-fn is_told(alloc: Global, line: &Command, wanted: &str) -> bool {
-    let Ok(numbers) = numbers(alloc, wanted) else {
-        return false;
-    };
+// Whether this comes of the row: the line's numbers, or why it may not read the log.
+fn comes(alloc: Global, row: &str, wanted: &str) -> Option<bool> {
+    let line = line_of(alloc, row)?.command;
+    let numbers = numbers(alloc, wanted).ok()?;
     let Some(id) = line.log_read() else {
-        return numbers.as_slice() == [sizes().most_words(line) as u64].as_slice();
+        return Some(numbers.as_slice() == [SIZES.most_words(&line) as u64].as_slice());
     };
-    match five_slots().to_read(line, id) {
-        Ok(found) => numbers.as_slice() == asked(line, &found.slot).as_slice(),
+    Some(match five_slots().to_read(&line, id) {
+        Ok(found) => numbers.as_slice() == asked(&line, &found.slot).as_slice(),
         Err(refusal) => refusal.name() == wanted,
-    }
+    })
 }
 
-/// Whether this comes of the row.
-pub fn comes(alloc: Global, row: &str, wanted: &str) -> bool {
-    match line_of(alloc, row) {
-        Some(line) => is_told(alloc, &line.command, wanted),
-        None => false,
+/// How many rows come out as they stand there, one after another.
+pub fn rows_that_come(alloc: Global, table: &str) -> usize {
+    let mut count = 0usize;
+    for row in table.split('\n') {
+        if let Some((case, wanted)) = row.split_once(": ") {
+            if comes(alloc, case, wanted) != Some(true) {
+                return count;
+            }
+            count = count.saturating_add(1);
+        }
     }
+    count
 }
 
 // A get asks for each page. Of bits 35 and 36 the first is that of the last page of slot 0; bits from the count
@@ -145,20 +142,17 @@ fn takes_out(line: &Command) -> (bool, bool, bool) {
     )
 }
 
-// Words above all of a log have none of its bits, as where 64 times their number is 0 or 64 modulo 2^64.
-fn has_far_bits(line: &Command, slot: &Slot) -> bool {
-    line.mask_asked(slot, 1 << 58) != 0 || line.mask_asked(slot, (1 << 58) + 1) != 0
-}
-
-/// Whether a get and a clear are such lines, and a get has no far bits of slot 0.
+/// Whether a get and a clear are such lines. Words above all of a log have none of its bits, as where 64 times their number is 0
+/// or 64 modulo 2^64.
 pub fn takes_out_by_the_mode(alloc: Global) -> bool {
     let (Some(get), Some(clear)) = (line_of(alloc, "get 0"), line_of(alloc, "clear 0 0 64")) else {
         return false;
     };
-    let has_far = match five_slots().get(0) {
-        Some(found) => has_far_bits(&get.command, &found.slot),
-        None => true,
+    let Some(found) = five_slots().get(0) else {
+        return false;
     };
+    let far = get.command.mask_asked(&found.slot, 1 << 58);
+    let farther = get.command.mask_asked(&found.slot, (1 << 58) + 1);
     let get = takes_out(&get.command) == (true, false, false);
-    get && takes_out(&clear.command) == (true, true, true) && !has_far
+    get && takes_out(&clear.command) == (true, true, true) && far == 0 && farther == 0
 }

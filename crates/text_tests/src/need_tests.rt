@@ -23,17 +23,15 @@ fn trace_of(alloc: Global, total: u64, base: u64, pages: u64) -> Result<Trace, A
     Ok(Trace::unscheduled(alloc, header, lines))
 }
 
-// The number of pages that such a trace needs.
-fn needed(alloc: Global, total: u64, base: u64, pages: u64) -> Option<u64> {
-    let trace = trace_of(alloc, total, base, pages).ok()?;
-    need(alloc, &trace).ok()
-}
-
 /// Whether no slot of these needs more than the four pages of a trace without one.
 pub fn slots_count_for_nothing(alloc: Global) -> bool {
     let slots = [(1024, 0, 0), (16, u64::MAX, 4), (u64::MAX, 1, u64::MAX)];
     for (total, base, pages) in slots {
-        if needed(alloc, total, base, pages) != Some(4) {
+        let needed = match trace_of(alloc, total, base, pages) {
+            Ok(trace) => need(alloc, &trace).ok(),
+            Err(_) => None,
+        };
+        if needed != Some(4) {
             return false;
         }
     }

@@ -12,8 +12,12 @@ fn are_same(pairs: &[(u64, u64)]) -> bool {
     true
 }
 
-/// Whether entries are these words.
-pub fn entry_words() -> bool {
+/// Whether entries are these words, of these kinds by level, with these children.
+#[tactic(auto, using(spte_words::proofs::ReadsEntries::leaf_frame))]
+pub fn entries_are_these() -> bool {
+    let large = Spte::from_word(0x600000000200887);
+    let child = Spte::leaf(3, 0x40000, false, true, true).child(3, 2);
+    let last = Spte::leaf(2, 512, true, true, true).child(2, 511);
     let leaf = Spte::leaf(1, 1, true, true, true);
     let words = [
         (leaf.word(), 0x600000000001807),
@@ -21,38 +25,23 @@ pub fn entry_words() -> bool {
         (Spte::table(3).word(), 0x3807),
         (Spte::absent().word(), 0),
         (Spte::frozen().word(), 0x5a0),
-    ];
-    are_same(&words) && leaf.without_write().with_write() == leaf
-}
-
-/// Whether entries are of these kinds, by level.
-pub fn kinds_by_level() -> bool {
-    let is_table = Spte::from_word(0x3807).kind(4) == SpteKind::Table(3);
-    let is_leaf = Spte::from_word(0x3807).kind(1) == SpteKind::Leaf;
-    let is_frozen = Spte::from_word(0x5a0).kind(2) == SpteKind::Frozen;
-    let is_absent = Spte::from_word(0).kind(2) == SpteKind::Absent;
-    is_table && is_leaf && is_frozen && is_absent
-}
-
-/// Whether a large leaf is read as one.
-pub fn large_leaf() -> bool {
-    let large = Spte::from_word(0x600000000200887);
-    let numbers = [(large.frame(), 512), (Spte::level_span(3), 262_144)];
-    let is_leaf = large.kind(2) == SpteKind::Leaf;
-    let is_writable = large.is_writable() && large.is_host_writable() && large.is_mmu_writable();
-    are_same(&numbers) && is_leaf && is_writable
-}
-
-/// Whether children of large leaves are these words.
-#[tactic(auto, using(spte_words::proofs::ReadsEntries::leaf_frame))]
-pub fn children_of_large_leaves() -> bool {
-    let child = Spte::leaf(3, 0x40000, false, true, true).child(3, 2);
-    let last = Spte::leaf(2, 512, true, true, true).child(2, 511);
-    let words = [
         (child.word(), 0x600000040400885),
         (last.word(), 0x6000000003ff807),
+        (large.frame(), 512),
+        (Spte::level_span(3), 262_144),
     ];
+    let is_leaf = large.kind(2) == SpteKind::Leaf;
+    let is_writable = large.is_writable() && large.is_host_writable() && large.is_mmu_writable();
+    let is_table = Spte::from_word(0x3807).kind(4) == SpteKind::Table(3);
+    let is_small = Spte::from_word(0x3807).kind(1) == SpteKind::Leaf;
+    let is_frozen = Spte::from_word(0x5a0).kind(2) == SpteKind::Frozen;
+    let is_absent = Spte::from_word(0).kind(2) == SpteKind::Absent;
+    let is_kind = is_table && is_small && is_frozen && is_absent;
     are_same(&words)
+        && leaf.without_write().with_write() == leaf
+        && is_leaf
+        && is_writable
+        && is_kind
 }
 
 /// Whether these are words below entries: rows of an entry, its level, a place, and the word that stands there in a table that is linked in
@@ -81,8 +70,8 @@ pub fn words_below() -> bool {
     true
 }
 
-/// Whether host words are these.
-pub fn host_words() -> bool {
+/// Whether host words and flags are these.
+pub fn host_words_and_flags() -> bool {
     let host = HostWord::new(5, true, true, 1);
     let huge = HostWord::from_word(0x20000d);
     let numbers = [
@@ -91,14 +80,10 @@ pub fn host_words() -> bool {
         (huge.frame(), 512),
     ];
     let is_read_only = huge.is_present() && !huge.is_writable();
-    are_same(&numbers) && is_read_only && HostWord::from_word(20487) == host
-}
-
-/// Whether flags are these.
-pub fn slot_flags() -> bool {
     let flags = SlotFlags::new(true, false, true);
     let is_so = flags.is_live() && !flags.is_read_only() && flags.is_logged();
-    flags.word() == 5 && is_so && SlotFlags::from_word(5) == flags
+    let are_flags = flags.word() == 5 && is_so && SlotFlags::from_word(5) == flags;
+    are_same(&numbers) && is_read_only && HostWord::from_word(20487) == host && are_flags
 }
 
 /// Whether words stand at these places.

@@ -1,22 +1,17 @@
 //! The tests: each table with how many rows it has, and what else is so, by name. Each test costs as much as several tables.
-use crate::cases::{Way, rows_that_come};
 use crate::expected::{expect, expect_so};
 use crate::flat_tests::all_answered;
+use crate::kept_tests::is_read;
+use crate::log_command_tests::rows_that_come;
+use crate::slot_set_tests::{all_come, first_slot};
+use crate::step_tests::are_told;
 use crate::{
-    answer_tests, flat_tests, io_tests, kept_tests, log_command_tests, need_tests, slot_set_tests,
-    spte_tests, step_tests,
+    answer_tests, flat_tests, io_tests, kept_tests, log_command_tests, need_tests,
+    slot_set_tests as sets, spte_tests, step_tests,
 };
 use core_views::Actor;
-use std::alloc::Global;
+use hands::SlotSet;
 use tdp_io::{Gate, NoGate};
-
-fn logs(alloc: Global, table: &str) -> usize {
-    rows_that_come(alloc, Way::Logs, table)
-}
-
-fn steps(alloc: Global, table: &str) -> usize {
-    rows_that_come(alloc, Way::Steps, table)
-}
 
 #[test]
 fn tables_come_out(rt: HostRuntime) {
@@ -37,24 +32,37 @@ fn tables_come_out(rt: HostRuntime) {
     expect(
         &rt,
         "bits asked for",
-        logs(alloc, log_command_tests::ASKS),
+        rows_that_come(alloc, log_command_tests::ASKS),
         15,
     );
-    expect(&rt, "no log", logs(alloc, log_command_tests::REFUSED), 18);
-    expect(&rt, "entries", steps(alloc, step_tests::ENTRIES), 11);
-    expect(&rt, "states", steps(alloc, step_tests::STATES), 10);
-    expect(&rt, "other words", steps(alloc, step_tests::OTHERS), 13);
+    expect(
+        &rt,
+        "no log",
+        rows_that_come(alloc, log_command_tests::REFUSED),
+        18,
+    );
+    expect_so(&rt, "entries", are_told(alloc, &step_tests::ENTRIES));
+    expect_so(&rt, "states", are_told(alloc, &step_tests::STATES));
+    expect_so(&rt, "other words", are_told(alloc, &step_tests::OTHERS));
 }
 
 #[test]
 fn reads_and_writes(rt: HostRuntime) {
     let alloc = rt.alloc();
-    expect_so(&rt, "a trace", kept_tests::reads_a_trace(alloc));
-    expect_so(&rt, "deletions", kept_tests::reads_deletions(alloc));
+    expect_so(
+        &rt,
+        "a trace",
+        is_read(alloc, kept_tests::TRACE, &kept_tests::KEPT),
+    );
+    expect_so(
+        &rt,
+        "deletions",
+        is_read(alloc, kept_tests::DELETIONS, &kept_tests::KEPT_DELETIONS),
+    );
     expect_so(
         &rt,
         "readings",
-        kept_tests::reads_what_logs_are_asked_for(alloc),
+        is_read(alloc, kept_tests::READINGS, &kept_tests::KEPT_READINGS),
     );
     expect_so(&rt, "go", kept_tests::keeps_where_go_stands(alloc));
     expect_so(&rt, "kinds", kept_tests::knows_each_kind());
@@ -64,7 +72,11 @@ fn reads_and_writes(rt: HostRuntime) {
         "modes",
         log_command_tests::takes_out_by_the_mode(alloc),
     );
-    expect_so(&rt, "answers", answer_tests::prints_line_after_line(alloc));
+    expect_so(
+        &rt,
+        "answers",
+        answer_tests::prints_line_after_line(alloc) == Some(true),
+    );
     expect_so(&rt, "endings", step_tests::tells_how_turns_end(alloc));
     expect_so(&rt, "fills", step_tests::tells_fills(alloc));
     expect_so(&rt, "places of steps", step_tests::finds_places());
@@ -83,42 +95,35 @@ fn reads_and_writes(rt: HostRuntime) {
         "two writes",
         matches!(io_tests::writes_one_of_two(alloc), Ok(true)),
     );
-    expect_so(&rt, "a broken reader", io_tests::fails_to_read());
+    expect_so(&rt, "failures", io_tests::tells_failures());
     expect_so(&rt, "a reader", io_tests::reads_abc());
-    expect_so(&rt, "a broken writer", io_tests::fails_to_write());
     expect_so(&rt, "a writer", io_tests::writes_four());
     NoGate.pass(&rt, Actor::Vcpu(0), 2);
 }
 
 #[test]
 fn sets_and_words_are_these(rt: HostRuntime) {
-    expect_so(&rt, "an empty set", slot_set_tests::is_empty_at_first());
-    expect_so(&rt, "refused slots", slot_set_tests::refuses_a_slot());
+    let empty = SlotSet::empty();
+    let first = first_slot();
+    expect_so(&rt, "an empty set", all_come(empty, 1024, &sets::EMPTY));
+    expect_so(&rt, "refused slots", all_come(first, 1024, &sets::REFUSED));
     expect_so(
         &rt,
         "first refusals",
-        slot_set_tests::answers_the_first_refusal(),
+        all_come(first, 1024, &sets::FIRST_REFUSALS),
     );
-    expect_so(&rt, "a logged slot", slot_set_tests::keeps_the_dirty_log());
-    expect_so(&rt, "moves", slot_set_tests::moves_and_deletes());
-    expect_so(
-        &rt,
-        "guest frames",
-        slot_set_tests::finds_the_slot_of_a_guest_frame(),
-    );
-    expect_so(&rt, "the last slot", slot_set_tests::sets_the_last_slot());
+    expect_so(&rt, "a logged slot", all_come(first, 1024, &sets::LOGGED));
+    expect_so(&rt, "moves", all_come(first, 1024, &sets::MOVES));
+    expect_so(&rt, "guest frames", all_come(first, 1024, &sets::FOUND));
+    expect_so(&rt, "the last slot", all_come(first, 1024, &sets::LAST));
     expect_so(
         &rt,
         "large numbers",
-        slot_set_tests::takes_numbers_of_every_size(),
+        all_come(first, u64::MAX, &sets::LARGE),
     );
-    expect_so(&rt, "refusals", slot_set_tests::names_each_refusal());
-    expect_so(&rt, "entries", spte_tests::entry_words());
-    expect_so(&rt, "kinds of entries", spte_tests::kinds_by_level());
-    expect_so(&rt, "a large leaf", spte_tests::large_leaf());
-    expect_so(&rt, "children", spte_tests::children_of_large_leaves());
+    expect_so(&rt, "refusals", sets::names_each_refusal());
+    expect_so(&rt, "entries", spte_tests::entries_are_these());
     expect_so(&rt, "words below", spte_tests::words_below());
-    expect_so(&rt, "host words", spte_tests::host_words());
-    expect_so(&rt, "flags", spte_tests::slot_flags());
+    expect_so(&rt, "host words", spte_tests::host_words_and_flags());
     expect_so(&rt, "places", spte_tests::map_places());
 }
