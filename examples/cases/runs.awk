@@ -5,7 +5,8 @@
 
 BEGIN {
   ORS = ""
-  split("check replay weave live alone any-cache refused cut rows flat calls", names, " ")
+  split("check replay weave live alone any-cache refused cut rows inputs plain endings flat calls", names, " ")
+  digits = "0123456789abcdef"
   for (i in names) is_way[names[i]] = 1
 }
 
@@ -78,6 +79,69 @@ function run_rows(text, pieces, count, i) {
   }
 }
 
+# The text with a line's end for each `;`, and with the byte for each `\x` and two digits.
+function bytes_of(text, all, code) {
+  gsub(/;/, "\n", text)
+  while (match(text, /\\x[0-9a-f][0-9a-f]/)) {
+    code = 16 * (index(digits, substr(text, RSTART + 2, 1)) - 1) + index(digits, substr(text, RSTART + 3, 1)) - 1
+    all = all substr(text, 1, RSTART - 1) sprintf("%c", code)
+    text = substr(text, RSTART + 4)
+  }
+  return all text
+}
+
+# The text so many times.
+function times(count, text, all) {
+  for (; count > 0; count = int(count / 2)) {
+    if (count % 2) all = all text
+    text = text text
+  }
+  return all
+}
+
+# The text once for each of the numbers `FIRST,SECOND..LAST`, which fall, with the number in the place of `%`.
+function falling(numbers, text, ends, parts, all, some, number) {
+  split(numbers, ends, /,|\.\./)
+  split(text, parts, /%/)
+  for (number = ends[1]; number >= ends[3]; number -= ends[1] - ends[2]) {
+    some = some parts[1] number parts[2]
+    if (length(some) > 10000) {
+      all = all some
+      some = ""
+    }
+  }
+  return all some
+}
+
+# What stands in braces: a number and a text, or numbers and a text.
+function repeated(braced, place, count, text) {
+  place = index(braced, " ")
+  count = substr(braced, 1, place - 1)
+  text = bytes_of(substr(braced, place + 1))
+  return count ~ /,/ ? falling(count, text) : times(count, text)
+}
+
+# The input that a row stands for.
+function input_of(row, all, place) {
+  while ((place = index(row, "{"))) {
+    all = all bytes_of(substr(row, 1, place - 1))
+    row = substr(row, place + 1)
+    place = index(row, "}")
+    all = all repeated(substr(row, 1, place - 1))
+    row = substr(row, place + 1)
+  }
+  return all bytes_of(row)
+}
+
+function run_inputs(text, pieces, count, i, row) {
+  count = split(lines, pieces, "\n")
+  for (i = 1; i < count; i++) {
+    at = FILENAME ":" row_line[i]
+    row = before (pieces[i] == "." ? "" : pieces[i])
+    run("whole", "tdpmmu check", header input_of(row), text, text ~ /^refused / ? 3 : 0)
+  }
+}
+
 # Any of the outputs may come.
 function run_live(input, i) {
   input = lines ~ /^tdp / ? lines : header lines
@@ -90,10 +154,17 @@ function run_case(text, input) {
   if (way == "alone") {
     run("whole", "tdpmmu weave", input "go\n", text, 0)
     run("whole", "tdpmmu replay", input, text, 0)
+  } else if (way == "plain") {
+    run("whole", "tdpmmu replay", input, text, 0)
+    program = "plain_replay"
+    run("whole", "plain_replay", input, text, 0)
+    program = "tdpmmu"
   } else if (way == "any-cache") run_any_cache(input, text)
   else if (way == "refused") run("whole", "tdpmmu replay", input, text, 3)
   else if (way == "cut") run("whole", "tdpmmu replay", substr(input, 1, length(input) - 1), text, 3)
+  else if (way == "endings") run("endings", "show_steps", input, text, 0)
   else if (way == "rows") run_rows(text)
+  else if (way == "inputs") run_inputs(text)
   else run("whole", "tdpmmu " way, input, text, 0)
 }
 
@@ -124,7 +195,7 @@ FNR == 1 {
   else if ($2 == "after") after = unfolded(substr($0, 9))
   else {
     way = $2
-    program = way == "calls" ? $3 : "tdpmmu"
+    program = way == "calls" ? $3 : way == "endings" ? "show_steps" : "tdpmmu"
     header = before = after = ""
     if (!(way in is_way)) bad("no way to run a case")
   }
@@ -157,8 +228,8 @@ $1 == "==" && way != "flat" {
 parts { text = text (way == "calls" ? $0 "\n" : unfolded($0)); next }
 
 {
-  if (way == "rows") row_line[++rows] = FNR
-  lines = lines (way == "rows" || way == "flat" || way == "calls" ? $0 "\n" : unfolded($0))
+  if (way == "rows" || way == "inputs") row_line[++rows] = FNR
+  lines = lines (way == "rows" || way == "inputs" || way == "flat" || way == "calls" ? $0 "\n" : unfolded($0))
 }
 
 END { if (begun) bad("the last file ends within a case") }

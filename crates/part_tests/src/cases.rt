@@ -1,16 +1,16 @@
-//! Tables of acts, as text, and machines at which they are done. A table is the lines of a trace, a line `==`, and a
-//! row for each act, which says who does it, what it is, with a number or none, and after a `:` what comes of it.
+//! Tables of acts, as text, and machines at which they are done. A case of a table is the lines of a trace, with a header or
+//! after the table's, a line `==`, and a row for each act, which says who does it, what it is, with a number or none, and
+//! after a `:` what comes of it. A line `--` stands between cases.
 //! `machine word N` looks at a word of the machine, `machine zeros N` counts the words from there on that are 0, and
 //! a last row `machine words` has how many words there are. Numbers above 65535 are told in sixteens. Lines that
 //! begin with `//` say what the rows are about.
 ghost use Rattle.std.specs.Prelude.{◌<◌, length};
 ghost use Rattle.core_views.specs.Sizes.{index_of};
 
-use crate::{expect_actor, machine_of};
+use crate::{has_actor, machine_of};
 use core_views::{Actor, Seen};
 use part_steps::{PartStep, map_of};
 use std::alloc::Global;
-use std::test::Fail;
 use step_seats::{MachineOwner, PlainMachine, Stepper, Turn, allows, make_part};
 
 /// What comes of an act: some words, and up to four numbers after them.
@@ -113,33 +113,28 @@ pub trait Acts {
 }
 
 // The number that is written there, in tens or, after `0x`, in sixteens.
-fn number(text: &str) -> Result<u64, Fail> {
-    let Some(digits) = text.strip_prefix("0x") else {
-        return Ok(text.parse::<u64>()?);
+fn number(text: &str) -> Option<u64> {
+    match text.strip_prefix("0x") {
+        Some(digits) => u64::from_str_radix(digits, 16).ok(),
+        None => text.parse::<u64>().ok(),
+    }
+}
+
+// Whether this is what came of an act: its words, and its numbers after them.
+fn is_told(came: &Came, want: &str) -> bool {
+    let Some(rest) = want.strip_prefix(came.words) else {
+        return false;
     };
-    Ok(u64::from_str_radix(digits, 16)?)
-}
-
-fn push_number(text: &mut String, number: u64) -> Result<(), Fail> {
-    if number > 0xffff {
-        write!(text, " 0x{number:x}")?;
-    } else {
-        write!(text, " {number}")?;
+    let mut count = 0usize;
+    for word in rest.split(' ') {
+        if !word.is_empty() {
+            if number(word) != came.numbers.get(count).copied() {
+                return false;
+            }
+            count = count.saturating_add(1);
+        }
     }
-    Ok(())
-}
-
-// What came of an act, as a row has it after the `:`.
-fn text_of(alloc: Global, came: &Came) -> Result<String, Fail> {
-    let mut text = String::new(alloc);
-    if !came.words.is_empty() {
-        text.push(' ')?;
-        text.push_str(came.words)?;
-    }
-    for number in came.numbers.iter().take(came.count) {
-        push_number(&mut text, *number)?;
-    }
-    Ok(text)
+    count == came.count
 }
 
 /// The actor of this name, of those that tables name.
@@ -190,12 +185,12 @@ fn act_by<A: Acts>(
     name: &str,
     word: &str,
     number: u64,
-) -> Result<Came, Fail> {
-    let Some(actor) = actor_named(name) else {
-        return Ok(looked(machine, word, number));
-    };
-    expect_actor(machine, actor)?;
-    Ok(acts.act(machine, actor, word, number))
+) -> Came {
+    match actor_named(name) {
+        Some(actor) if has_actor(machine, actor) => acts.act(machine, actor, word, number),
+        Some(_) => Came::unknown(),
+        None => looked(machine, word, number),
+    }
 }
 
 // The words of an act: who does it, what, and the number, if it has one.
@@ -209,21 +204,13 @@ fn parts(act: &str) -> (&str, &str, &str) {
     }
 }
 
-// The act is done: what comes of it.
-fn done<A: Acts>(
-    alloc: Global,
-    acts: &mut A,
-    machine: &mut PlainMachine,
-    act: &str,
-) -> Result<String, Fail> {
+// Whether the act comes out as it stands in its row.
+fn comes<A: Acts>(acts: &mut A, machine: &mut PlainMachine, act: &str, want: &str) -> bool {
     let (name, word, digits) = parts(act);
-    let came = act_by(acts, machine, name, word, number(digits)?)?;
-    text_of(alloc, &came)
-}
-
-// What the row says, and what came of it.
-fn told(alloc: Global, row: &str, came: &str) -> Result<String, Fail> {
-    Ok(format!(in alloc; "{row}, but it came:{came}")?)
+    let Some(number) = number(digits) else {
+        return false;
+    };
+    is_told(&act_by(acts, machine, name, word, number), want)
 }
 
 // The act of a row and what is to come of it, but of a note.
@@ -231,34 +218,28 @@ fn act_of(row: &str) -> Option<(&str, &str)> {
     if row.starts_with("//") {
         None
     } else {
-        row.split_once(':')
+        row.split_once(": ")
     }
 }
 
-// How many acts, one after another, come out as they stand in their rows, and the first row that doesn't, if any.
-fn first_other_act<A: Acts>(
-    alloc: Global,
-    acts: &mut A,
-    machine: &mut PlainMachine,
-    rows: &str,
-) -> Result<(usize, String), Fail> {
+// How many acts come out as they stand in their rows, one after another, up to the first that doesn't.
+fn acts_that_come<A: Acts>(acts: &mut A, machine: &mut PlainMachine, rows: &str) -> usize {
     let mut count = 0usize;
     for row in rows.split('\n') {
         if let Some((act, want)) = act_of(row) {
-            let came = done(alloc, acts, machine, act)?;
-            if came.as_str() != want {
-                return Ok((count, told(alloc, row, &came)?));
+            if !comes(acts, machine, act, want) {
+                return count;
             }
             count = count.saturating_add(1);
         }
     }
-    Ok((count, String::new(alloc)))
+    count
 }
 
-// The parts of a table: the lines of the trace, the acts, and how many words there are, if it says so.
-fn parts_of(table: &str) -> (&str, &str, Option<&str>) {
-    let Some((lines, rest)) = table.split_once("==\n") else {
-        return (table, "", None);
+// The parts of a case: the lines of the trace, the acts, and how many words there are, if it says so.
+fn parts_of(case: &str) -> (&str, &str, Option<&str>) {
+    let Some((lines, rest)) = case.split_once("==\n") else {
+        return (case, "", None);
     };
     match rest.split_once("machine words: ") {
         Some((rows, words)) => (lines, rows, Some(words)),
@@ -266,33 +247,38 @@ fn parts_of(table: &str) -> (&str, &str, Option<&str>) {
     }
 }
 
-// The same of the row that says how many words there are.
-fn counted(alloc: Global, machine: PlainMachine, want: &str) -> Result<(usize, String), Fail> {
-    let words = machine.into_closing().words.as_slice().len();
-    let came = format!(in alloc; "{words}\n")?;
-    if came.as_str() == want {
-        Ok((1, String::new(alloc)))
-    } else {
-        Ok((0, told(alloc, "machine words", &came)?))
+fn words_of(machine: PlainMachine) -> usize {
+    machine.into_closing().words.as_slice().len()
+}
+
+// 1 if this is how many words there are by the case's last row, else 0.
+fn counted(words: usize, want: Option<&str>) -> usize {
+    match want {
+        Some(want) => {
+            let want = want.strip_suffix('\n').unwrap_or(want);
+            usize::from(want.parse::<usize>().ok() == Some(words))
+        }
+        None => 0,
     }
 }
 
-/// How many rows of the table come out as they stand there, and the first one that doesn't, with what came of it.
-/// The trace of its machine has this header.
-pub fn first_other_row<A: Acts>(
-    alloc: Global,
-    head: &str,
-    acts: &mut A,
-    table: &str,
-) -> Result<(usize, String), Fail> {
-    let (lines, rows, words) = parts_of(table);
-    let mut machine = machine_of(alloc, head, lines)?;
-    let (done, other) = first_other_act(alloc, acts, &mut machine, rows)?;
-    match words {
-        Some(want) if other.is_empty() => {
-            let (one, other) = counted(alloc, machine, want)?;
-            Ok((done.saturating_add(one), other))
-        }
-        _ => Ok((done, other)),
+// How many rows of the case come out as they stand there, one after another. Its machine has this header, or its own.
+fn rows_that_come<A: Acts>(alloc: Global, head: &str, acts: &mut A, case: &str) -> usize {
+    let (lines, rows, words) = parts_of(case);
+    let head = if lines.starts_with("tdp ") { "" } else { head };
+    let Some(mut machine) = machine_of(alloc, head, lines) else {
+        return 0;
+    };
+    let count = acts_that_come(acts, &mut machine, rows);
+    count.saturating_add(counted(words_of(machine), words))
+}
+
+/// How many rows of the table come out as they stand there, in each case up to the first that doesn't. The traces of its
+/// machines have this header, but for those that have one of their own.
+pub fn all_that_come<A: Acts>(alloc: Global, head: &str, acts: &mut A, table: &str) -> usize {
+    let mut count = 0usize;
+    for case in table.split("--\n") {
+        count = count.saturating_add(rows_that_come(alloc, head, acts, case));
     }
+    count
 }

@@ -1,19 +1,12 @@
 //! What the tests of this crate expect.
-use crate::{Acts, first_other_row};
-use std::alloc::Global;
 use std::process::Abort;
-use std::test::Fail;
 
-/// The table has so many rows, and each comes out as it stands there.
-pub fn expect_all<R: Abort, A: Acts>(
-    rt: &R,
-    alloc: Global,
-    head: &str,
-    acts: &mut A,
-    table: &str,
-    count: usize,
-) -> Result<(), Fail> {
-    let (rows, other) = first_other_row(alloc, head, acts, table)?;
-    assert_eq!(rt; (rows, other.as_str()), (count, ""));
-    Ok(())
+/// So many rows of the table with this name came out as they stand there.
+pub fn expect<R: Abort>(rt: &R, name: &str, rows: usize, count: usize) {
+    assert_eq!(rt; (name, rows), (name, count));
+}
+
+/// What has this name is so.
+pub fn expect_so<R: Abort>(rt: &R, name: &str, is_so: bool) {
+    assert_eq!(rt; (name, is_so), (name, true));
 }

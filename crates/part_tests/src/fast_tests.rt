@@ -1,9 +1,8 @@
 //! The two steps of a fast fault that change a word, at a machine that is at its start: no actor makes them without a line.
-use crate::expected::expect_all;
-use crate::{Acts, Came, HEAD};
+use crate::{Acts, Came, HEAD, all_that_come};
 use core_views::Actor;
 use part_steps::PartStep;
-use std::test::Fail;
+use std::alloc::Global;
 use step_seats::{PlainMachine, Stepper, allows, make_part, needs_line};
 
 // Whether the hand allows that writes are allowed in a leaf, or that a page is marked.
@@ -68,7 +67,7 @@ impl Acts for FastSteps {
 }
 
 // Each actor, in a section, has loaded the slot set and the root.
-const NOBODY: &str = "\
+const TABLE: &str = "\
 ==
 v0 begin: may not
 v0 slots: may not
@@ -86,7 +85,8 @@ v0 fix: needs a line
 v0 mark: needs a line
 ";
 
-#[test]
-fn nobody_fixes_or_marks_without_a_line(rt: HostRuntime) -> Result<(), Fail> {
-    expect_all(&rt, rt.alloc(), HEAD, &mut FastSteps, NOBODY, 14)
+/// How many rows of the table come out as they stand there.
+pub fn rows(alloc: Global) -> usize {
+    let mut acts = FastSteps;
+    all_that_come(alloc, HEAD, &mut acts, TABLE)
 }

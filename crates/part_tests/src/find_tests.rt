@@ -1,10 +1,9 @@
 //! Searches at machines with no slot, and with one.
-use crate::expected::expect_all;
-use crate::{Acts, Came, HEAD, make, make_steps};
+use crate::{Acts, Came, HEAD, all_that_come, make, make_steps};
 use core_views::{Actor, Stay};
 use memslots::{Find, FoundSlot, Sought};
 use part_steps::PartStep;
-use std::test::Fail;
+use std::alloc::Global;
 use step_seats::{PlainMachine, Stepper, Turn, allows};
 
 // The next turn of the search, where the hand allows its step.
@@ -100,25 +99,17 @@ impl Acts for Searches {
 }
 
 // No slot is live at the start: the search ends with the flags of ID 31.
-const NO_SLOT: &str = "\
+const TABLE: &str = "\
 ==
 v0 begin: made
 v0 frame 5: none
 v0 more-and-set: 32 1
-";
-
-#[test]
-fn finds_none_at_the_start(rt: HostRuntime) -> Result<(), Fail> {
-    let mut searches = Searches { more: 0 };
-    expect_all(&rt, rt.alloc(), HEAD, &mut searches, NO_SLOT, 3)
-}
-
+--
+vm slot 3 5 3 64 ro
+==
 // The manager sets slot 3, of guest frames 5, 6 and 7, in 524 steps: the map, the page, 512 words and the role of the
 // set, the lock, the count, the set, the lock, the three other actors, and the role and the page of the set before. The
 // set stands in page 2 then. Each search loads the flags of IDs 0 to 2, and the four words of ID 3.
-const A_SLOT: &str = "\
-vm slot 3 5 3 64 ro
-==
 vm line: made 524
 v0 begin: made
 v0 frame 5: ro slot 3 5 3 64
@@ -139,8 +130,8 @@ v0 page 67: none
 v0 more-and-set: 35 2
 ";
 
-#[test]
-fn finds_the_slot_of_a_frame(rt: HostRuntime) -> Result<(), Fail> {
-    let mut searches = Searches { more: 0 };
-    expect_all(&rt, rt.alloc(), HEAD, &mut searches, A_SLOT, 18)
+/// How many rows of the table come out as they stand there.
+pub fn rows(alloc: Global) -> usize {
+    let mut acts = Searches { more: 0 };
+    all_that_come(alloc, HEAD, &mut acts, TABLE)
 }

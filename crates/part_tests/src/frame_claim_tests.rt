@@ -5,22 +5,13 @@ ghost use Rattle.mmu_core.specs.declared.claim.FreeMap.TheVariants.{Frames};
 ghost use Rattle.mmu_core.specs.orders.ClaimSteps.{claim_part};
 ghost use Rattle.mmu_core.specs.machine.MayMake.{MayMake};
 
-use crate::expected::expect_all;
-use crate::{Acts, Came, is_next, make_steps};
+use crate::{Acts, Came, all_that_come, is_next, make_steps};
 use core_views::{Actor, Answer, MapClaim, Refusal};
 use mmu_core::FreeMap;
 use part_steps::PartStep;
-use std::test::Fail;
+use std::alloc::Global;
 use step_seats::{Hand, PlainMachine, Stepper, Turn};
 use table_pool::{Claim, Claimed};
-
-// Headers with 70 frames, 71 and 72.
-
-const HEAD_OF_70: &str =
-    "tdp 1 vcpus 1 workers 0 pages 70 frames 70 words 1 pool 4 cache 1 manual 0 hosts 0 35\n";
-
-const HEAD_OF_71: &str =
-    "tdp 1 vcpus 1 workers 0 pages 70 frames 71 words 1 pool 4 cache 1 manual 0 hosts 0 35\n";
 
 const HEAD_OF_72: &str =
     "tdp 1 vcpus 1 workers 0 pages 70 frames 72 words 1 pool 4 cache 1 manual 0 hosts 0 35\n";
@@ -116,7 +107,7 @@ impl Acts for FrameClaims {
 // word 14 of all words.
 
 // Frame 70 is the lowest free one, and frame 71 is left: bit 7 of word 14.
-const LOWEST: &str = "\
+const TABLE: &str = "\
 h0 move 5
 h1 move 40
 ==
@@ -125,35 +116,23 @@ h0 claim-anew: more
 h0 claim: more
 h0 claim: got 70
 machine word 14: 128
-";
-
-#[test]
-fn claims_the_lowest_frame(rt: HostRuntime) -> Result<(), Fail> {
-    expect_all(&rt, rt.alloc(), HEAD_OF_72, &mut FrameClaims, LOWEST, 5)
-}
-
-// Each frame has a page: the line is answered with the load of the last word.
-const NONE: &str = "\
+--
+tdp 1 vcpus 1 workers 0 pages 70 frames 70 words 1 pool 4 cache 1 manual 0 hosts 0 35
 h0 move 5
 h1 move 40
 ==
+// Each frame has a page: the line is answered with the load of the last word.
 h0 step: made 1
 h0 claim-anew: more
 h0 claim: empty
 h0 answer: refused no-frame
-";
-
-#[test]
-fn finds_no_frame(rt: HostRuntime) -> Result<(), Fail> {
-    expect_all(&rt, rt.alloc(), HEAD_OF_70, &mut FrameClaims, NONE, 4)
-}
-
-// After both threads have seen the map, the only free frame is taken: the claim of the other one loads the word
-// again, and finds none.
-const LOST: &str = "\
+--
+tdp 1 vcpus 1 workers 0 pages 70 frames 71 words 1 pool 4 cache 1 manual 0 hosts 0 35
 h0 move 5
 h1 move 40
 ==
+// After both threads have seen the map, the only free frame is taken: the claim of the other one loads the word
+// again, and finds none.
 h0 step: made 1
 h0 claim-anew: more
 h0 claim: more
@@ -165,7 +144,8 @@ h0 claim: wait 14 0
 h0 claim: empty
 ";
 
-#[test]
-fn loses_a_frame_to_another(rt: HostRuntime) -> Result<(), Fail> {
-    expect_all(&rt, rt.alloc(), HEAD_OF_71, &mut FrameClaims, LOST, 9)
+/// How many rows of the table come out as they stand there.
+pub fn rows(alloc: Global) -> usize {
+    let mut acts = FrameClaims;
+    all_that_come(alloc, HEAD_OF_72, &mut acts, TABLE)
 }

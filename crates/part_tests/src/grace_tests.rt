@@ -4,14 +4,11 @@ ghost use Rattle.std.specs.Prelude.{◌≡◌};
 ghost use Rattle.grace_period.specs.Watches.{watched_next};
 ghost use Rattle.part_steps.specs.PartBounds.{PartRests};
 
-use crate::expected::expect_all;
-use crate::{Acts, Came, HEAD};
+use crate::{Acts, Came, HEAD, all_that_come};
 use core_views::Actor;
 use grace_period::{Watch, begin, end};
 use part_steps::PartStep;
 use std::alloc::Global;
-use std::process::Abort;
-use std::test::Fail;
 use step_seats::{Hand, PlainMachine, Stepper, allows, make_part, next_watched, part_rests};
 
 // The step on the actor's own state word, where it is allowed.
@@ -104,18 +101,10 @@ impl Acts for Watching {
     }
 }
 
-// The table's rows, at a machine with one watch.
-fn expect_watch<R: Abort>(rt: &R, alloc: Global, table: &str, count: usize) -> Result<(), Fail> {
-    let mut watching = Watching {
-        watch: Watch::new(),
-    };
-    expect_all(rt, alloc, HEAD, &mut watching, table, count)
-}
-
 // An actor waits for the state word of another one: 8 of v0, 9 of v1, 10 of h0, 11 of vm. It is 2 in a section, and
 // 3 in the guest.
 
-const EACH_SECTION: &str = "\
+const TABLE: &str = "\
 ==
 v0 begin: done
 vm look: wait 8 2
@@ -132,16 +121,9 @@ vm look: wait 10 2
 h0 end: done
 vm look: done
 vm look: not allowed
-";
-
-#[test]
-fn managers_watch_waits_for_each_section(rt: HostRuntime) -> Result<(), Fail> {
-    expect_watch(&rt, rt.alloc(), EACH_SECTION, 15)
-}
-
-const NEXT_WATCH: &str = "\
+--
 ==
-vm look: more
+vm look-anew: more
 vm look: more
 v0 begin: done
 vm look-anew: wait 8 2
@@ -149,18 +131,11 @@ v0 end: done
 vm look: more
 vm look: more
 vm look: done
-";
-
-#[test]
-fn next_watch_begins_with_the_first(rt: HostRuntime) -> Result<(), Fail> {
-    expect_watch(&rt, rt.alloc(), NEXT_WATCH, 8)
-}
-
-const ITS_OWN_ACTOR: &str = "\
+--
 ==
 v0 begin: done
 v1 begin: done
-v0 look: wait 9 2
+v0 look-anew: wait 9 2
 v1 end: done
 v0 look: more
 v0 look: more
@@ -173,14 +148,7 @@ v0 end: done
 v1 look: more
 h0 begin: done
 v1 look: wait 10 2
-";
-
-#[test]
-fn watch_skips_its_own_actor(rt: HostRuntime) -> Result<(), Fail> {
-    expect_watch(&rt, rt.alloc(), ITS_OWN_ACTOR, 15)
-}
-
-const NESTED: &str = "\
+--
 ==
 h0 end: not allowed
 h0 begin: done
@@ -189,7 +157,10 @@ h0 end: done
 h0 begin: done
 ";
 
-#[test]
-fn sections_do_not_nest(rt: HostRuntime) -> Result<(), Fail> {
-    expect_watch(&rt, rt.alloc(), NESTED, 5)
+/// How many rows of the table come out as they stand there.
+pub fn rows(alloc: Global) -> usize {
+    let mut acts = Watching {
+        watch: Watch::new(),
+    };
+    all_that_come(alloc, HEAD, &mut acts, TABLE)
 }

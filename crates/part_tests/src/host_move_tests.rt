@@ -1,12 +1,11 @@
 //! A host page that is moved to another frame, at a machine.
 
-use crate::expected::expect_all;
 use crate::host_tests::{change_next, run};
-use crate::{Acts, Came, HEAD_OF_POOL_8, go_to, is_next};
+use crate::{Acts, Came, HEAD_OF_POOL_8, all_that_come, go_to, is_next};
 use core_views::{Actor, OwnedFrame};
 use host_map::{copy, frame_give, store};
 use part_steps::PartStep;
-use std::test::Fail;
+use std::alloc::Global;
 use step_seats::{Hand, PlainMachine, Stepper};
 
 // Copies the content word with this index, where the line's steps lead to that.
@@ -84,7 +83,7 @@ impl Acts for Moves {
 // Slot 0 is set, of which guest frame 18 is host page 66, 77 is written to word 1 of this page, and h0 moves it. Its
 // words are copied from frame 66 to frame 70, the lowest free one, the page is moved there, and frame 66 is free then.
 // Its host word is 4096 * 70 + 7. The content words of frame 66 begin with index 132, and those of frame 70 with 140.
-const MOVE: &str = "\
+const TABLE: &str = "\
 vm slot 0 16 4 64
 v0 write 0x12008 77
 h0 move 66
@@ -112,7 +111,8 @@ machine word 4325: 77
 machine words: 4452
 ";
 
-#[test]
-fn moves_a_page(rt: HostRuntime) -> Result<(), Fail> {
-    expect_all(&rt, rt.alloc(), HEAD_OF_POOL_8, &mut Moves, MOVE, 20)
+/// How many rows of the table come out as they stand there.
+pub fn rows(alloc: Global) -> usize {
+    let mut acts = Moves;
+    all_that_come(alloc, HEAD_OF_POOL_8, &mut acts, TABLE)
 }

@@ -3,12 +3,11 @@ ghost use Rattle.std.specs.Prelude.{◌≡◌, ◌<◌};
 ghost use Rattle.core_views.specs.Sizes.{AreSizes};
 ghost use Rattle.host_map.specs.Touching.{touch_kind};
 
-use crate::expected::expect_all;
-use crate::{Acts, Came, HEAD_OF_POOL_8, go_to, is_next, make_steps};
+use crate::{Acts, Came, HEAD_OF_POOL_8, all_that_come, go_to, is_next, make_steps};
 use core_views::{Actor, HostLook, Kind, Op, Sizes, StepKind};
 use host_map::{Changed, bring_in, change, load, look, touch};
 use part_steps::{PartStep, map_of};
-use std::test::Fail;
+use std::alloc::Global;
 use step_seats::{Hand, PlainMachine, Stepper, allows, next_kind, part_rests, rests};
 
 // The operation on a word of a frame, as the words of the machine see it.
@@ -171,7 +170,7 @@ impl Acts for HostSteps {
 
 // Each page is at the frame of its own number at first, present, writable and
 // small: 4096 times the frame, and 7. There is no page 70.
-const LOOKS: &str = "\
+const TABLE: &str = "\
 ==
 v1 look 0: found 7
 v1 held: page, word 0 7
@@ -180,48 +179,16 @@ v1 held: page, word 66 0x42007
 v1 look 69: found 0x45007
 v1 held: page, word 69 0x45007
 v1 look 70: not allowed
-";
-
-#[test]
-fn looks_at_a_page(rt: HostRuntime) -> Result<(), Fail> {
-    expect_all(&rt, rt.alloc(), HEAD_OF_POOL_8, &mut HostSteps, LOOKS, 7)
-}
-
-// The manager sets slot 0, of which guest frames 16 to 19 are host pages 64 to 67. Three lines of v0 touch word 1 of
-// guest frame 18, which is host page 66: a write, an add of -2 and a read. The write's line puts three tables and the
-// leaf before. The contents begin at word 4192, with two words a frame.
-const TOUCHES: &str = "\
-vm slot 0 16 4 64
-v0 write 0x12008 77
-v0 add 0x12008 0xfffffffffffffffe
-v0 read 0x12008
-==
-vm run 524: ran
-v0 write 77: found 0
-v0 add 0xfffffffffffffffe: found 77
-v0 read: found 75
-v0 read: none is next
-machine zeros 4192: 133
-machine word 4325: 75
-machine zeros 4326: 126
-machine words: 4452
-";
-
-#[test]
-fn touches_a_word(rt: HostRuntime) -> Result<(), Fail> {
-    expect_all(&rt, rt.alloc(), HEAD_OF_POOL_8, &mut Touches, TOUCHES, 9)
-}
-
-// The same slot, a read by each processor, and two lines of h0: the page of the reads is taken
-// away, and writes to it are allowed. Its host word is 0x42007 where the page is present, and
-// 0x42006 where it isn't.
-const ABSENCE: &str = "\
+--
 vm slot 0 16 4 64
 v0 read 0x12008
 v1 read 0x12008
 h0 evict 66
 h0 allow 66
 ==
+// The same slot, a read by each processor, and two lines of h0: the page of the reads is taken
+// away, and writes to it are allowed. Its host word is 0x42007 where the page is present, and
+// 0x42006 where it isn't.
 vm run 524: ran
 // The page is taken away, and looked at by h0 again and by both processors.
 h0 lead-to-change 0x42006: led
@@ -245,7 +212,32 @@ machine word 84: 0x42007
 machine words: 4452
 ";
 
-#[test]
-fn brings_a_page_in_once(rt: HostRuntime) -> Result<(), Fail> {
-    expect_all(&rt, rt.alloc(), HEAD_OF_POOL_8, &mut HostSteps, ABSENCE, 17)
+/// How many rows of the table come out as they stand there.
+pub fn rows(alloc: Global) -> usize {
+    all_that_come(alloc, HEAD_OF_POOL_8, &mut HostSteps, TABLE)
+}
+
+// The manager sets slot 0, of which guest frames 16 to 19 are host pages 64 to 67. Three lines of v0 touch word 1 of
+// guest frame 18, which is host page 66: a write, an add of -2 and a read. The write's line puts three tables and the
+// leaf before. The contents begin at word 4192, with two words a frame.
+const TOUCHES: &str = "\
+vm slot 0 16 4 64
+v0 write 0x12008 77
+v0 add 0x12008 0xfffffffffffffffe
+v0 read 0x12008
+==
+vm run 524: ran
+v0 write 77: found 0
+v0 add 0xfffffffffffffffe: found 77
+v0 read: found 75
+v0 read: none is next
+machine zeros 4192: 133
+machine word 4325: 75
+machine zeros 4326: 126
+machine words: 4452
+";
+
+/// The same of a table of touches.
+pub fn touched_rows(alloc: Global) -> usize {
+    all_that_come(alloc, HEAD_OF_POOL_8, &mut Touches, TOUCHES)
 }

@@ -6,15 +6,9 @@
 #![tactic(auto)]
 
 #[cfg(test)]
-mod access_tests;
-#[cfg(test)]
-mod acts;
-#[cfg(test)]
 mod cases;
 #[cfg(test)]
 mod expected;
-#[cfg(test)]
-mod fast_fault_tests;
 #[cfg(test)]
 mod fast_tests;
 #[cfg(test)]
@@ -26,25 +20,15 @@ mod frame_claim_tests;
 #[cfg(test)]
 mod grace_tests;
 #[cfg(test)]
-mod host_line_tests;
-#[cfg(test)]
 mod host_move_tests;
 #[cfg(test)]
 mod host_tests;
-#[cfg(test)]
-mod line_cases;
 #[cfg(test)]
 mod lines;
 #[cfg(test)]
 mod lock_tests;
 #[cfg(test)]
-mod log_line_tests;
-#[cfg(test)]
 mod machines;
-#[cfg(test)]
-mod move_line_tests;
-#[cfg(test)]
-mod numbers;
 #[cfg(test)]
 mod pool_tests;
 #[cfg(test)]
@@ -52,15 +36,11 @@ mod seat_tests;
 #[cfg(test)]
 mod seq_tests;
 #[cfg(test)]
-mod show_cases;
-#[cfg(test)]
 mod show_tests;
 #[cfg(test)]
-mod slot_line_tests;
-#[cfg(test)]
-mod split_line_tests;
-#[cfg(test)]
 mod table_tests;
+#[cfg(test)]
+mod tests;
 #[cfg(test)]
 mod tlb_tests;
 #[cfg(test)]
@@ -71,8 +51,8 @@ mod untold;
 mod walk_tests;
 
 #[cfg(test)]
-use cases::{Acts, Came, first_other_row, make};
+use cases::{Acts, Came, all_that_come, make};
 #[cfg(test)]
-use lines::{go_to, is_next, make_steps, take_step, told};
+use lines::{go_to, is_next, make_steps};
 #[cfg(test)]
-use machines::{HEAD, HEAD_OF_POOL_8, expect_actor, machine_of};
+use machines::{HEAD, HEAD_OF_POOL_8, has_actor, machine_of, trace_of};

@@ -1,18 +1,13 @@
-//! Steps of an actor's lines, and steps of parts by an actor that has none left.
+//! Steps of an actor's lines.
 ghost use Rattle.std.specs.Prelude.{◌≡◌, ◌<◌, length, true};
 ghost use Rattle.mmu_core.specs.lines.Rests.{Rests};
 ghost use Rattle.part_steps.specs.PartSteps.{PartNeeds};
 ghost use Rattle.mmu_core.specs.machine.MayMake.{MayMake};
 ghost use Rattle.mmu_core.specs.machine.Worlds.{HandReached};
 
-use crate::expect_actor;
-use core_views::{Actor, Answer, NoMemory};
+use core_views::NoMemory;
 use part_steps::PartStep;
-use std::test::Fail;
-use step_seats::{
-    Hand, PlainMachine, Stepper, Turn, allows, make_part, next_kind, next_step, part_kind,
-    part_rests, rests, take_turn,
-};
+use step_seats::{Hand, Stepper, next_kind, next_step, part_kind, part_rests, rests, take_turn};
 
 /// Makes so many steps of the seat's lines, or those that are left: how many it made.
 pub fn make_steps<S: Stepper>(seat: &mut S, most: u64) -> Result<u64, NoMemory> {
@@ -82,31 +77,4 @@ pub fn go_to<S: Stepper>(seat: &mut S, step: PartStep, note: u64) -> Result<(), 
         let _ = seat.act(kind);
     }
     Ok(())
-}
-
-/// Makes a step of a part by an actor that has no line left.
-pub fn take_step(machine: &mut PlainMachine, actor: Actor, step: PartStep) -> Result<(), Fail> {
-    expect_actor(machine, actor)?;
-    let mut seat = machine.as_actor(actor);
-    seat.reserve()?;
-    if !allows(seat.hand(), step, 0) {
-        return Err(Fail::new("the actor may not make the step"));
-    }
-    let _ = make_part(&mut seat, step, 0);
-    Ok(())
-}
-
-/// What a turn of the hand's line told: where the line is answered, what the hand has.
-pub fn told(said: Turn<()>, hand: &Hand) -> Result<Turn<Answer>, Fail> {
-    Ok(match said {
-        Turn::More => Turn::More,
-        Turn::Wait(seen) => Turn::Wait(seen),
-        Turn::Retry(cause) => Turn::Retry(cause),
-        Turn::Done(()) => {
-            let Some(last) = hand.answers().last() else {
-                return Err(Fail::new("the hand has no answer"));
-            };
-            Turn::Done(last.answer.clone()?)
-        }
-    })
 }

@@ -1,11 +1,10 @@
 //! The lock on a machine whose actors have no lines.
-use crate::expected::expect_all;
 use crate::untold::{UntoldSeat, exclusive_untold};
-use crate::{Acts, Came, HEAD};
+use crate::{Acts, Came, HEAD, all_that_come};
 use core_views::{Actor, Hold};
 use mmu_lock::{Lock, try_exclusive, try_shared, unlock};
 use part_steps::PartStep;
-use std::test::Fail;
+use std::alloc::Global;
 use step_seats::{PlainMachine, Stepper, Turn, WRITER, allows};
 
 // What a try for the lock came to: the word that it found, where others have it.
@@ -125,7 +124,7 @@ impl Acts for UntoldLocks {
 }
 
 // Two readers share the lock, and a writer finds both of them. The lock's word is word 6.
-const READERS: &str = "\
+const TABLE: &str = "\
 ==
 v0 share: got
 v1 share: got
@@ -135,16 +134,9 @@ vm exclude: held 1
 v1 give-back: given back
 vm exclude: got
 machine word 6: 0x8000000000000000
-";
-
-#[test]
-fn readers_share_it(rt: HostRuntime) -> Result<(), Fail> {
-    expect_all(&rt, rt.alloc(), HEAD, &mut Locks, READERS, 8)
-}
-
-// A reader that finds a writer takes itself out again, and answers what it found.
-const A_WRITER: &str = "\
+--
 ==
+// A reader that finds a writer takes itself out again, and answers what it found.
 vm exclude: got
 v0 share: more
 v1 share: more
@@ -156,9 +148,9 @@ v1 share: held writer + 1
 vm exclude: got
 ";
 
-#[test]
-fn a_writer_keeps_readers_out(rt: HostRuntime) -> Result<(), Fail> {
-    expect_all(&rt, rt.alloc(), HEAD, &mut Locks, A_WRITER, 8)
+/// How many rows of the table come out as they stand there.
+pub fn rows(alloc: Global) -> usize {
+    all_that_come(alloc, HEAD, &mut Locks, TABLE)
 }
 
 // The parts do the same at a seat that tells no world. The last writer comes after the reader has added itself.
@@ -170,7 +162,7 @@ v1 share: more
 vm exclude: held writer + 1
 ";
 
-#[test]
-fn untold_seats_take_the_lock(rt: HostRuntime) -> Result<(), Fail> {
-    expect_all(&rt, rt.alloc(), HEAD, &mut UntoldLocks, UNTOLD, 4)
+/// The same of a table of acts through seats that tell no world.
+pub fn untold_rows(alloc: Global) -> usize {
+    all_that_come(alloc, HEAD, &mut UntoldLocks, UNTOLD)
 }

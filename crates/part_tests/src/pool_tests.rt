@@ -7,15 +7,12 @@ ghost use Rattle.part_steps.specs.PartTasks.{page_owned};
 ghost use Rattle.table_pool.specs.Claims.{claim_step};
 ghost use Rattle.table_pool.specs.Pages.{fill_step};
 
-use crate::expected::expect_all;
-use crate::{Acts, Came, HEAD};
+use crate::{Acts, Came, HEAD, all_that_come};
 use core_views::Actor;
 use mmu_core::FreeMap;
 use part_steps::{PartStep, map_of};
 use spte_words::Area;
 use std::alloc::Global;
-use std::process::Abort;
-use std::test::Fail;
 use step_seats::{PlainMachine, Stepper, Turn, allows, part_rests, words_filled};
 use table_pool::{Claim, Claimed, Fill, Give};
 
@@ -155,14 +152,9 @@ impl Acts for PageSteps {
     }
 }
 
-fn expect_pages<R: Abort>(rt: &R, alloc: Global, table: &str, count: usize) -> Result<(), Fail> {
-    let mut steps = PageSteps { job: Fill::new(2) };
-    expect_all(rt, alloc, HEAD, &mut steps, table, count)
-}
-
 // The pool's map is word 12, the role of page 2 is word 90, and its own words are 1116 to 1627.
 
-const LOWEST: &str = "\
+const TABLE: &str = "\
 ==
 v0 claim-anew: more
 v0 claim: got 2
@@ -171,17 +163,10 @@ v1 claim: got 3
 h0 claim-anew: empty
 machine word 12: 0
 machine words: 2400
-";
-
-#[test]
-fn claims_the_lowest_page(rt: HostRuntime) -> Result<(), Fail> {
-    expect_pages(&rt, rt.alloc(), LOWEST, 7)
-}
-
+--
+==
 // A page that is taken meanwhile: the claim goes on with what it sees then, and
 // loads the word again once it sees none.
-const LOST: &str = "\
-==
 v0 claim-anew: more
 h0 claim-anew: more
 v1 claim-anew: more
@@ -192,14 +177,7 @@ h0 claim: got 3
 v0 claim: wait 12 0
 v0 claim: empty
 machine words: 2400
-";
-
-#[test]
-fn loses_pages_to_others(rt: HostRuntime) -> Result<(), Fail> {
-    expect_pages(&rt, rt.alloc(), LOST, 10)
-}
-
-const FILLED: &str = "\
+--
 ==
 v0 claim-anew: more
 v0 claim: got 2
@@ -210,16 +188,9 @@ machine word 90: 3
 // Page 3 and the contents are not written either.
 machine zeros 1116: 1284
 machine words: 2400
-";
-
-#[test]
-fn fills_a_page_and_its_role(rt: HostRuntime) -> Result<(), Fail> {
-    expect_pages(&rt, rt.alloc(), FILLED, 8)
-}
-
-// The next claim gets the page with what was filled in.
-const GIVEN: &str = "\
+--
 ==
+// The next claim gets the page with what was filled in.
 v0 claim-anew: more
 v0 claim: got 2
 v0 fill 5: more
@@ -234,7 +205,8 @@ machine word 1118: 0
 machine words: 2400
 ";
 
-#[test]
-fn gives_a_page_back(rt: HostRuntime) -> Result<(), Fail> {
-    expect_pages(&rt, rt.alloc(), GIVEN, 12)
+/// How many rows of the table come out as they stand there.
+pub fn rows(alloc: Global) -> usize {
+    let mut acts = PageSteps { job: Fill::new(2) };
+    all_that_come(alloc, HEAD, &mut acts, TABLE)
 }

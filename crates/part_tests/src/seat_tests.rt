@@ -6,10 +6,9 @@ ghost use Rattle.mmu_core.specs.machine.Machine.{Leads};
 ghost use Rattle.step_seats.specs.Machines.{world_in};
 ghost use Rattle.step_seats.specs.Told.{WorldLeadsOn};
 
-use crate::expected::expect_all;
-use crate::{Acts, Came, HEAD};
+use crate::{Acts, Came, HEAD, all_that_come, has_actor};
 use core_views::{Actor, Answer, NoMemory};
-use std::test::Fail;
+use std::alloc::Global;
 use step_seats::{Hand, MachineOwner, PlainMachine, Stepper, next_kind, rests};
 
 // The next step of the seat's line, through the bound, where it has one left.
@@ -35,14 +34,6 @@ fn step_of(machine: &mut PlainMachine, actor: Actor) -> Result<Option<u64>, NoMe
 {
     let mut seat = machine.as_actor(actor);
     step(&mut seat)
-}
-
-// Whether the machine has this actor.
-fn has_actor(machine: &PlainMachine, actor: Actor) -> bool
-    ensures { result ≡ true → index_of machine.now.sizes actor < length machine.now.hands }
-{
-    let sizes = machine.sizes();
-    sizes.index_of(actor) < sizes.actors()
 }
 
 // A step of the actor's line: what it found, where one is left.
@@ -99,7 +90,7 @@ impl Acts for Steps {
 // in the root, and leaves; its fault takes the sequence number, and finds no slot
 // in the set of pool page 1. Each step answers what it found. There are
 // 12 + 1 + 3 + 2 + 70 + 4 + 2048 + 260 words.
-const NO_SLOT: &str = "\
+const TABLE: &str = "\
 v0 read 0x5008
 ==
 v0 steps 4: 4 0
@@ -117,7 +108,8 @@ machine word 14: 0xffffffffffffffc0
 machine words: 2400
 ";
 
-#[test]
-fn an_access_without_a_slot(rt: HostRuntime) -> Result<(), Fail> {
-    expect_all(&rt, rt.alloc(), HEAD, &mut Steps, NO_SLOT, 13)
+/// How many rows of the table come out as they stand there.
+pub fn rows(alloc: Global) -> usize {
+    let mut acts = Steps;
+    all_that_come(alloc, HEAD, &mut acts, TABLE)
 }

@@ -1,10 +1,9 @@
 //! A snapshot and a check at a machine that is at its start, and checks at numbers.
-use crate::expected::expect_all;
-use crate::{Acts, Came, HEAD, make};
+use crate::{Acts, Came, HEAD, all_that_come, make};
 use core_views::{Actor, CheckStage, Hold, Invalidated, Invalidations};
 use invalidate_seq::{Check, Checked, Snapshot};
 use part_steps::PartStep;
-use std::test::Fail;
+use std::alloc::Global;
 use step_seats::{PlainMachine, Stepper, Turn, allows};
 
 fn checked(turn: &Turn<Checked>) -> Came {
@@ -59,7 +58,8 @@ fn check<S: Stepper>(seat: &mut S, job: &mut Check, gfn: u64) -> Came {
 }
 
 // `snapshot`, `share`. `check N`: both turns of a check of a guest frame, of which the first one goes on to the sequence
-// number: what the second one says. `of`: the guest frame of the last check.
+// number: what the second one says. `of`: the guest frame of the last check. `end N` and `number N`: a check of a guest frame at
+// numbers, of no actor.
 #[derive(Drop)]
 struct Checks {
     check: Check,
@@ -73,27 +73,11 @@ impl Acts for Checks {
             "snapshot" => snapshot(&mut seat),
             "check" => check(&mut seat, &mut self.check, number),
             "of" => Came::one("frame", self.check.gfn),
+            "end" => said(CheckStage::End, number),
+            "number" => said(CheckStage::Seq, number),
             _ => Came::unknown(),
         }
     }
-}
-
-// No invalidation is open at the start, and the sequence number is 0: a check
-// loads these two words, and finds nothing.
-const AT_THE_START: &str = "\
-==
-v0 snapshot: done 0
-v0 share: made
-v0 check 5: fresh
-v0 of: frame 5
-";
-
-#[test]
-fn finds_nothing_at_the_start(rt: HostRuntime) -> Result<(), Fail> {
-    let mut checks = Checks {
-        check: Check::new(0),
-    };
-    expect_all(&rt, rt.alloc(), HEAD, &mut checks, AT_THE_START, 4)
 }
 
 // What a check of the guest frame says at the end of the range 5 to 9, or at the sequence number, where the numbers
@@ -135,23 +119,17 @@ fn said(stage: CheckStage, gfn: u64) -> Came {
     }
 }
 
-// `end N` and `number N`: a check of a guest frame at numbers, of no actor.
-#[derive(Drop)]
-struct Numbers;
-
-impl Acts for Numbers {
-    fn act(&mut self, _machine: &mut PlainMachine, _actor: Actor, word: &str, number: u64) -> Came {
-        match word {
-            "end" => said(CheckStage::End, number),
-            "number" => said(CheckStage::Seq, number),
-            _ => Came::unknown(),
-        }
-    }
-}
-
-// The frame after the range isn't in it.
-const BY_NUMBERS: &str = "\
+// No invalidation is open at the start, and the sequence number is 0: a check
+// loads these two words, and finds nothing.
+const TABLE: &str = "\
 ==
+v0 snapshot: done 0
+v0 share: made
+v0 check 5: fresh
+v0 of: frame 5
+--
+==
+// The frame after the range isn't in it.
 v0 end 4: more
 v0 end 5: open 2 5 9
 v0 end 8: open 2 5 9
@@ -159,7 +137,10 @@ v0 end 9: more
 v0 number 9: moved 7 8
 ";
 
-#[test]
-fn answers_by_the_numbers_kept(rt: HostRuntime) -> Result<(), Fail> {
-    expect_all(&rt, rt.alloc(), HEAD, &mut Numbers, BY_NUMBERS, 5)
+/// How many rows of the table come out as they stand there.
+pub fn rows(alloc: Global) -> usize {
+    let mut acts = Checks {
+        check: Check::new(0),
+    };
+    all_that_come(alloc, HEAD, &mut acts, TABLE)
 }

@@ -1,28 +1,42 @@
-//! What the built `show_steps` can't be run on: few turns in rounds, a source or a sink that fails, and no words at all. All its
-//! other runs are cases (`examples/cases/steps.cases`) and examples.
-use crate::show_cases::{expect_all, expect_text, failing_ends};
-use std::test::Fail;
+//! What the built `show_steps` can't be run on: few turns in rounds, and no words at all. All its other runs are cases
+//! (`examples/cases/steps.cases`) and examples.
+use core_views::NoMemory;
+use run_status::Status;
+use std::alloc::Global;
+use step_printing::run_within;
+use tdp_io::{MemSink, MemSource};
 
-// Ten reads outside every slot: some 12,000 bytes of steps.
-const TEN_READS: &str = "\
-tdp 1 vcpus 2 workers 1 pages 1024 frames 1040 words 1 pool 64 cache 64 manual 0 hosts 0
-v0 read 0x0
-v0 read 0x0
-v0 read 0x0
-v0 read 0x0
-v0 read 0x0
-v0 read 0x0
-v0 read 0x0
-v0 read 0x0
-v0 read 0x0
-v0 read 0x0
-";
+// The number of the exit status with which the program ends that is called with these words on this input, and has so many turns
+// in rounds; and what it prints.
+fn told(alloc: Global, words: &Vec<String>, turns: u64, input: &str) -> Result<String, NoMemory> {
+    let mut src = MemSource::new(input.as_bytes().to_vec(alloc)?, Vec::new(alloc));
+    let mut out = MemSink::new(alloc, Vec::new(alloc));
+    let status: Status = run_within(alloc, words, turns, &mut src, &mut out);
+    let code = status.code();
+    let text = String::from_utf8_lossy(alloc, out.bytes())?;
+    Ok(format!(in alloc; "{code}\n{text}")?)
+}
+
+// Whether this comes of such a call.
+fn is_told(alloc: Global, words: &Vec<String>, turns: u64, input: &str, wanted: &str) -> bool {
+    match told(alloc, words, turns, input) {
+        Ok(text) => text.as_str() == wanted,
+        Err(_) => false,
+    }
+}
+
+// The same of a call with the program's name alone.
+fn is_shown(alloc: Global, turns: u64, input: &str, wanted: &str) -> bool {
+    let mut words = Vec::new(alloc);
+    match String::from_str(alloc, "show_steps") {
+        Ok(name) => words.push(name).is_ok() && is_told(alloc, &words, turns, input, wanted),
+        Err(_) => false,
+    }
+}
 
 // Two virtual processors claim a page each, v0 fills some of its own, and both fill in turn, with 7 turns in rounds: an
-// item's line parts stores, and so does a turn of another actor. The steps were worked out by hand. Then a slot line that
-// gets no turn, words that are no command where the first write fails, and no words; and a line that is refused where the
-// first write fails.
-const CASES: &str = "\
+// item's line parts stores, and so does a turn of another actor. The steps were worked out by hand.
+const TWO_READS: &str = "\
 tdp 1 vcpus 2 workers 1 pages 1024 frames 1040 words 1 pool 64 cache 64 manual 0 hosts 0
 vm slot 0 0 16 0
 go
@@ -32,7 +46,9 @@ v1 read 0x1000
 > v1 claim
 > v0 2
 > v0 3
-== 7 turns: show_steps
+";
+
+const SEVEN_TURNS: &str = "\
 6
 1 vm control poolmap[0] 0xfffffffffffffffc
 2 vm claim poolmap[0] 0xfffffffffffffffc -> 0xfffffffffffffff8
@@ -107,39 +123,25 @@ rounds
 576 v1 fill pool[3][2] 0x0
 577 v0 fill pool[1][8] 0x0
 unfinished 4 v0
---
-tdp 1 vcpus 2 workers 1 pages 1024 frames 1040 words 1 pool 64 cache 64 manual 0 hosts 0
-vm slot 0 0 16 0
-== 0 turns: show_steps
-6
-rounds
-unfinished 2 vm
-== 0 writes: show_steps fly
-5
-== .
-2
-usage: show_steps [weave | replay]
---
-tdp 1 vcpus 2 workers 1 pages 1024 frames 1040 words 1 pool 64 cache 64 manual 0 hosts 0
-vm slot 0 0 16 0
-v2 read 0x0
-== 0 writes: show_steps
-5
---
 ";
 
-#[test]
-fn ends_where_its_turns_and_its_ends_do(rt: HostRuntime) -> Result<(), Fail> {
-    expect_all(&rt, rt.alloc(), CASES, 5)
+/// Whether a run ends after seven turns in rounds.
+pub fn ends_where_its_turns_do(alloc: Global) -> bool {
+    is_shown(alloc, 7, TWO_READS, SEVEN_TURNS)
 }
 
-// Where a read or the first write fails, nothing is printed. Where a later write fails, the first piece stands: what the
-// whole text begins with.
-#[test]
-fn prints_no_more_once_an_end_failed(rt: HostRuntime) -> Result<(), Fail> {
-    expect_text(
-        &rt,
-        failing_ends(rt.alloc(), TEN_READS),
-        "4\n5\n0, 5, begins the whole: true, 8192 bytes or more: true, shorter: true",
-    )
+const A_SLOT: &str = "\
+tdp 1 vcpus 2 workers 1 pages 1024 frames 1040 words 1 pool 64 cache 64 manual 0 hosts 0
+vm slot 0 0 16 0
+";
+
+/// Whether a slot line may get no turn.
+pub fn makes_no_turn(alloc: Global) -> bool {
+    is_shown(alloc, 0, A_SLOT, "6\nrounds\nunfinished 2 vm\n")
+}
+
+/// Whether a call may have no words.
+pub fn has_no_words(alloc: Global) -> bool {
+    let wanted = "2\nusage: show_steps [weave | replay]\n";
+    is_told(alloc, &Vec::new(alloc), 0, A_SLOT, wanted)
 }

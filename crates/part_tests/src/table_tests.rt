@@ -4,15 +4,11 @@ ghost use Rattle.std.specs.Prelude.{◌≡◌, IfOk};
 ghost use Rattle.core_views.specs.Traces.{IsTrace};
 ghost use Rattle.table_seats.specs.Boards.{Fits};
 
-use crate::HEAD;
+use crate::{HEAD, trace_of};
 use core_views::{Answer, NoMemory, Trace};
 use std::alloc::Global;
-use std::process::Abort;
-use std::test::Fail;
 use step_seats::{Closing, Hand, Stepper, next_kind, rests};
 use table_seats::{Board, Pass, TableSeat};
-use tdp_io::MemSource;
-use trace_reader::{Read, read_trace};
 
 // The places of the two processors among all actors.
 const FIRST: usize = 0;
@@ -100,36 +96,35 @@ struct Closed {
     words: usize,
 }
 
-// The trace of two accesses of a guest frame that no slot has.
-fn run_accesses(alloc: Global) -> Result<Option<Closed>, Fail> {
-    let mut bytes = HEAD.as_bytes().to_vec(alloc)?;
-    bytes.extend_from_slice(b"v0 read 0x5008\nv1 read 0x5008\n")?;
-    let mut source = MemSource::new(bytes, Vec::new(alloc));
-    let Read::Trace(trace) = read_trace(alloc, &mut source)? else {
-        return Err(Fail::new("the text is no trace"));
-    };
-    let Some(closing) = run(alloc, &trace)? else {
-        return Ok(None);
-    };
+fn found_in(closing: &Closing) -> Closed {
     let hands = closing.hands.as_slice();
     let words = closing.words.as_slice();
-    Ok(Some(Closed {
+    Closed {
         exits: [exits(hands.get(FIRST)), exits(hands.get(SECOND))],
         slots: words.get(1).copied().unwrap_or(0),
         pool: words.get(12).copied().unwrap_or(0),
         words: words.len(),
-    }))
+    }
 }
 
-#[test]
-fn passes_part_and_come_together(rt: HostRuntime) -> Result<(), Fail> {
-    let came = run_accesses(rt.alloc())?;
-    let closed = Closed {
+// The same of the trace of two accesses of a guest frame that no slot has, if it comes to a close.
+fn run_accesses(alloc: Global) -> Option<Closed> {
+    let Some(trace) = trace_of(alloc, HEAD, "v0 read 0x5008\nv1 read 0x5008\n") else {
+        return None;
+    };
+    match run(alloc, &trace) {
+        Ok(Some(closing)) => Some(found_in(&closing)),
+        _ => None,
+    }
+}
+
+/// Whether passes part and come together.
+pub fn passes_come_together(alloc: Global) -> bool {
+    let wanted = Closed {
         exits: [1, 1],
         slots: 1,
         pool: 12,
         words: 2400,
     };
-    assert!(&rt; came == Some(closed));
-    Ok(())
+    run_accesses(alloc) == Some(wanted)
 }

@@ -2,11 +2,10 @@
 ghost use Rattle.std.specs.Prelude.{◌≡◌, ◌<◌, true};
 ghost use Rattle.mmu_core.specs.machine.MayMake.{MayMake};
 
-use crate::expected::expect_all;
-use crate::{Acts, Came, HEAD};
+use crate::{Acts, Came, HEAD, all_that_come};
 use core_views::Actor;
 use part_steps::PartStep;
-use std::test::Fail;
+use std::alloc::Global;
 use step_seats::{PlainMachine, Stepper, allows};
 use vcpu_tlb::{Entered, enter, leave, paused};
 
@@ -68,7 +67,7 @@ impl Acts for Entries {
 
 // Virtual processor 0 looks at the pause, enters and leaves. No step asks for a flush, so
 // that `flushed` is never reached. Its state word is word 8.
-const IN_AND_OUT: &str = "\
+const TABLE: &str = "\
 ==
 v0 pause 0: not paused, cached 0
 v0 leave 0: not allowed, cached 0
@@ -79,7 +78,8 @@ v0 leave 0: not allowed, cached 0
 machine word 8: 0
 ";
 
-#[test]
-fn enters_and_leaves(rt: HostRuntime) -> Result<(), Fail> {
-    expect_all(&rt, rt.alloc(), HEAD, &mut Entries, IN_AND_OUT, 7)
+/// How many rows of the table come out as they stand there.
+pub fn rows(alloc: Global) -> usize {
+    let mut acts = Entries;
+    all_that_come(alloc, HEAD, &mut acts, TABLE)
 }

@@ -1,17 +1,12 @@
-//! What the tests of this crate expect, but for tables (`cases.rt`).
+//! What the tests of this crate expect.
 use std::process::Abort;
-use std::test::Fail;
 
-/// The text is this one.
-pub fn expect_text<R: Abort>(rt: &R, text: Result<String, Fail>, wanted: &str) -> Result<(), Fail> {
-    let text = text?;
-    assert_eq!(rt; text.as_str(), wanted);
-    Ok(())
+/// So many rows of the table with this name came out as they stand there.
+pub fn expect<R: Abort>(rt: &R, name: &str, rows: usize, count: usize) {
+    assert_eq!(rt; (name, rows), (name, count));
 }
 
-/// This is so.
-pub fn expect<R: Abort>(rt: &R, is_so: Result<bool, Fail>) -> Result<(), Fail> {
-    let is_so = is_so?;
-    assert!(rt; is_so);
-    Ok(())
+/// What has this name is so.
+pub fn expect_so<R: Abort>(rt: &R, name: &str, is_so: bool) {
+    assert_eq!(rt; (name, is_so), (name, true));
 }

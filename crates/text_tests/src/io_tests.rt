@@ -1,13 +1,11 @@
 //! Sources and sinks, in memory and of std, whole and failing.
 
-use crate::expected::expect;
-use core_views::Actor;
+use core_views::NoMemory;
 use std::alloc::Global;
 use std::io;
-use std::test::Fail;
 use tdp_io::{
-    Gate, Input, MemSink, MemSource, NoGate, Output, Pulled, Sink, Source, StdSink, StdSource,
-    Stop, read_all, write_all,
+    Input, MemSink, MemSource, Output, Pulled, Sink, Source, StdSink, StdSource, Stop, read_all,
+    write_all,
 };
 
 /// A reader and a writer, whose every call fails.
@@ -30,8 +28,8 @@ impl io::Write for Broken {
     }
 }
 
-// 65,536 sevens and three nines: the first read gives the sevens, the second fails.
-fn reads_nines_after_a_fault(alloc: Global) -> Result<bool, Fail> {
+/// Whether a source reads on after a fault, of 65,536 sevens and three nines: the first read gives the sevens, the second fails.
+pub fn reads_nines_after_a_fault(alloc: Global) -> Result<bool, NoMemory> {
     let mut bytes = vec![in alloc; 7; 65_536]?;
     bytes.extend_from_slice(&[9, 9, 9])?;
     let mut source = MemSource::new(bytes, vec![in alloc; 1]?);
@@ -42,12 +40,8 @@ fn reads_nines_after_a_fault(alloc: Global) -> Result<bool, Fail> {
     }
 }
 
-#[test]
-fn reads_on_after_a_fault(rt: HostRuntime) -> Result<(), Fail> {
-    expect(&rt, reads_nines_after_a_fault(rt.alloc()))
-}
-
-fn reads_each_chunk(alloc: Global) -> Result<bool, Fail> {
+/// Whether 200,000 bytes are read.
+pub fn reads_each_chunk(alloc: Global) -> Result<bool, NoMemory> {
     let bytes = vec![in alloc; 7; 200_000]?;
     let mut source = MemSource::new(bytes, Vec::new(alloc));
     match read_all(alloc, &mut source)? {
@@ -56,12 +50,8 @@ fn reads_each_chunk(alloc: Global) -> Result<bool, Fail> {
     }
 }
 
-#[test]
-fn reads_many_chunks(rt: HostRuntime) -> Result<(), Fail> {
-    expect(&rt, reads_each_chunk(rt.alloc()))
-}
-
-fn writes_one_of_two(alloc: Global) -> Result<bool, Fail> {
+/// Whether the second write stops at a fault.
+pub fn writes_one_of_two(alloc: Global) -> Result<bool, NoMemory> {
     let mut sink = MemSink::new(alloc, vec![in alloc; 1]?);
     if write_all(&mut sink, b"one ").is_err() {
         return Ok(false);
@@ -70,17 +60,15 @@ fn writes_one_of_two(alloc: Global) -> Result<bool, Fail> {
     Ok(is_failed && sink.bytes() == b"one ".as_slice())
 }
 
-#[test]
-fn stops_at_a_fault(rt: HostRuntime) -> Result<(), Fail> {
-    expect(&rt, writes_one_of_two(rt.alloc()))
-}
-
-fn fails_to_read() -> bool {
+/// Whether it is told that a reader fails, and that a writer does.
+pub fn tells_failures() -> bool {
     let mut buf = [0; 2];
-    StdSource::new(Broken).read(&mut buf) == Pulled::Failed
+    let fails = StdSource::new(Broken).read(&mut buf) == Pulled::Failed;
+    fails && StdSink::new(Broken).write(b"abc") == Output::Failed
 }
 
-fn reads_abc() -> bool {
+/// Whether a reader gives its bytes, and its end.
+pub fn reads_abc() -> bool {
     let mut source = StdSource::new(b"abc".as_slice());
     let mut buf = [0; 2];
     let has_two = source.read(&mut buf) == Pulled::Got(2) && buf == [97, 98];
@@ -88,17 +76,8 @@ fn reads_abc() -> bool {
     has_two && has_one && source.read(&mut buf) == Pulled::End
 }
 
-#[test]
-fn reads_from_std(rt: HostRuntime) -> Result<(), Fail> {
-    expect(&rt, Ok(fails_to_read() && reads_abc()))
-}
-
-fn fails_to_write() -> bool {
-    StdSink::new(Broken).write(b"abc") == Output::Failed
-}
-
-// A writer that has room for four bytes, and takes nothing then.
-fn writes_four() -> bool {
+/// Whether a writer takes what it has room for. It has room for four bytes, and takes nothing then.
+pub fn writes_four() -> bool {
     let mut room = [0; 4];
     let mut sink = StdSink::new(room.as_mut_slice());
     if sink.write(b"abc") != Output::Took(3) || sink.write(b"def") != Output::Took(1) {
@@ -106,14 +85,4 @@ fn writes_four() -> bool {
     }
     let is_failed = sink.write(b"ef") == Output::Failed;
     is_failed && room == [97, 98, 99, 100]
-}
-
-#[test]
-fn writes_to_std(rt: HostRuntime) -> Result<(), Fail> {
-    expect(&rt, Ok(fails_to_write() && writes_four()))
-}
-
-#[test]
-fn passes_no_gate(rt: HostRuntime) {
-    NoGate.pass(&rt, Actor::Vcpu(0), 2);
 }

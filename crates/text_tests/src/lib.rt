@@ -6,23 +6,19 @@
 #[cfg(test)]
 mod answer_tests;
 #[cfg(test)]
-mod cases;
+mod command;
 #[cfg(test)]
 mod expected;
-#[cfg(test)]
-mod expected_rows;
 #[cfg(test)]
 mod flat_tests;
 #[cfg(test)]
 mod io_tests;
 #[cfg(test)]
-mod item_tests;
+mod kept_tests;
 #[cfg(test)]
 mod log_command_tests;
 #[cfg(test)]
 mod need_tests;
-#[cfg(test)]
-mod reading_tests;
 #[cfg(test)]
 mod rows;
 #[cfg(test)]
@@ -31,3 +27,5 @@ mod slot_set_tests;
 mod spte_tests;
 #[cfg(test)]
 mod step_tests;
+#[cfg(test)]
+mod tests;

@@ -6,28 +6,11 @@
 //!   are, the bits of the first three words that it asks for, how many of the pages 0 to 255 those are, the
 //!   last of them, and how many words it reads of any log at most.
 
-use crate::expected_rows::expect_rows;
-use crate::rows::{numbers, verb};
-use core_views::{Command, LogMode, Sizes, Slot, Words};
+use crate::command::line_of;
+use crate::rows::numbers;
+use core_views::{Command, LogMode, Sizes, Slot};
 use hands::SlotSet;
 use std::alloc::Global;
-use std::test::Fail;
-
-// The line's command.
-fn command(alloc: Global, row: &str) -> Result<Command, Fail> {
-    let numbers = numbers(alloc, row)?;
-    match (verb(row), numbers.as_slice()) {
-        ("get", [id]) => Ok(Command::GetLog { id: *id }),
-        ("delete", [id]) => Ok(Command::DeleteSlot { id: *id }),
-        ("clear", [id, first, count, words @ ..]) => Ok(Command::ClearLog {
-            id: *id,
-            first: *first,
-            count: *count,
-            words: Words::from_vec(words.to_vec(alloc)?),
-        }),
-        _ => Err(Fail::new("the row has other numbers")),
-    }
-}
 
 // A set of five slots, of 100, 64, 127, 64 pages and one page: all but slot 1 have a dirty log.
 fn five_slots() -> SlotSet {
@@ -45,23 +28,21 @@ fn five_slots() -> SlotSet {
 }
 
 // The sizes of a machine of 1024 host pages.
-fn sizes() -> Sizes {
-    Sizes {
-        pages: 1024,
-        frames: 1040,
-        words: 2,
-        pool: 64,
-        cache: 64,
-        vcpus: 1,
-        hosts: 1,
-        workers: 0,
-        mode: LogMode::Manual,
-        first_pages: [0, 1024, 1024, 1024],
-    }
-}
+const SIZES: Sizes = Sizes {
+    pages: 1024,
+    frames: 1040,
+    words: 2,
+    pool: 64,
+    cache: 64,
+    vcpus: 1,
+    hosts: 1,
+    workers: 0,
+    mode: LogMode::Manual,
+    first_pages: [0, 1024, 1024, 1024],
+};
 
-// How many of the pages 0 to 255 the line asks for, and the last of them; 0 where there is none.
-fn pages_asked(line: &Command) -> (u64, u64) {
+// What the line asks for of the log of this slot, and how many of the pages 0 to 255, of which the last is 0 where there is none.
+fn asked(line: &Command, slot: &Slot) -> [u64; 8] {
     let mut count = 0u64;
     let mut last = 0;
     for page in 0..256u64 {
@@ -70,57 +51,48 @@ fn pages_asked(line: &Command) -> (u64, u64) {
             last = page;
         }
     }
-    (count, last)
+    [
+        line.first_asked(),
+        line.count_asked(slot),
+        line.mask_asked(slot, 0),
+        line.mask_asked(slot, 1),
+        line.mask_asked(slot, 2),
+        count,
+        last,
+        SIZES.most_words(line) as u64,
+    ]
 }
 
-// What the line asks for of the log of this slot.
-fn asked(alloc: Global, line: &Command, slot: &Slot) -> Result<String, Fail> {
-    let from = line.first_asked();
-    let bits = line.count_asked(slot);
-    let first = line.mask_asked(slot, 0);
-    let second = line.mask_asked(slot, 1);
-    let third = line.mask_asked(slot, 2);
-    let (pages, last) = pages_asked(line);
-    let most = sizes().most_words(line);
-    Ok(format!(in alloc;
-        "from {from} {bits} bits 0x{first:x} 0x{second:x} 0x{third:x} pages {pages} last {last} most {most}"
-    )?)
-}
-
-// What comes of the row.
-fn told(alloc: Global, row: &str) -> Result<String, Fail> {
-    let line = command(alloc, row)?;
+// Whether this comes of the row: the line's numbers, or why it may not read the log.
+fn comes(alloc: Global, row: &str, wanted: &str) -> Option<bool> {
+    let line = line_of(alloc, row)?.command;
+    let numbers = numbers(alloc, wanted).ok()?;
     let Some(id) = line.log_read() else {
-        let most = sizes().most_words(&line);
-        return Ok(format!(in alloc; "reads none most {most}")?);
+        return Some(numbers.as_slice() == [SIZES.most_words(&line) as u64].as_slice());
     };
-    match five_slots().to_read(&line, id) {
-        Ok(found) => asked(alloc, &line, &found.slot),
-        Err(refusal) => {
-            let name = refusal.name();
-            Ok(format!(in alloc; "{name}")?)
-        }
-    }
+    Some(match five_slots().to_read(&line, id) {
+        Ok(found) => numbers.as_slice() == asked(&line, &found.slot).as_slice(),
+        Err(refusal) => refusal.name() == wanted,
+    })
 }
 
-// How many rows come out as they stand there, and the first that does not, with what came of it.
-fn first_other(alloc: Global, table: &str) -> Result<(usize, String), Fail> {
+/// How many rows come out as they stand there, one after another.
+pub fn rows_that_come(alloc: Global, table: &str) -> usize {
     let mut count = 0usize;
     for row in table.split('\n') {
-        if let Some((row, wanted)) = row.split_once(": ") {
-            let came = told(alloc, row)?;
-            if came.as_str() != wanted {
-                return Ok((count, format!(in alloc; "{row}: {came}")?));
+        if let Some((case, wanted)) = row.split_once(": ") {
+            if comes(alloc, case, wanted) != Some(true) {
+                return count;
             }
             count = count.saturating_add(1);
         }
     }
-    Ok((count, String::new(alloc)))
+    count
 }
 
 // A get asks for each page. Of bits 35 and 36 the first is that of the last page of slot 0; bits from the count
 // on count for nothing, and a word that isn't given has no bit set.
-const ASKS: &str = "\
+pub const ASKS: &str = "\
 get 0: from 0 100 bits 0xffffffffffffffff 0xfffffffff 0x0 pages 256 last 255 most 17
 get 2: from 0 127 bits 0xffffffffffffffff 0x7fffffffffffffff 0x0 pages 256 last 255 most 17
 get 3: from 0 64 bits 0xffffffffffffffff 0x0 0x0 pages 256 last 255 most 17
@@ -138,14 +110,9 @@ clear 4 0 1 0xffffffffffffffff: from 0 1 bits 0x1 0x0 0x0 pages 1 last 0 most 1
 delete 0: reads none most 0
 ";
 
-#[test]
-fn asks_for_bits_and_pages(rt: HostRuntime) -> Result<(), Fail> {
-    expect_rows(&rt, first_other(rt.alloc(), ASKS), 15)
-}
-
 // No slot has the ID; else the slot has no log; else the range begins within a word, ends within one before the
 // slot's end, or reaches past the slot, as where its end is 0 or 100 modulo 2^64.
-const REFUSED: &str = "\
+pub const REFUSED: &str = "\
 get 5: missing
 get 32: missing
 get 0xffffffffffffffff: missing
@@ -166,11 +133,6 @@ clear 0 0xffffffffffffffc0 164: bad-range
 clear 0 64 0xffffffffffffffc0: bad-range
 ";
 
-#[test]
-fn refuses_what_is_no_log(rt: HostRuntime) -> Result<(), Fail> {
-    expect_rows(&rt, first_other(rt.alloc(), REFUSED), 18)
-}
-
 // Whether the line takes out what it reads, where logs are automatic, manual, and manual with all set.
 fn takes_out(line: &Command) -> (bool, bool, bool) {
     (
@@ -180,20 +142,17 @@ fn takes_out(line: &Command) -> (bool, bool, bool) {
     )
 }
 
-// Words above all of a log have none of its bits, as where 64 times their number is 0 or 64 modulo 2^64.
-fn has_far_bits(line: &Command, slot: &Slot) -> bool {
-    line.mask_asked(slot, 1 << 58) != 0 || line.mask_asked(slot, (1 << 58) + 1) != 0
-}
-
-#[test]
-fn takes_out_by_the_mode(rt: HostRuntime) -> Result<(), Fail> {
-    let get = command(rt.alloc(), "get 0")?;
-    let clear = command(rt.alloc(), "clear 0 0 64")?;
-    assert_eq!(rt; takes_out(&get), (true, false, false));
-    assert_eq!(rt; takes_out(&clear), (true, true, true));
-    let far = five_slots()
-        .get(0)
-        .map(|found| has_far_bits(&get, &found.slot));
-    assert_eq!(rt; far, Some(false));
-    Ok(())
+/// Whether a get and a clear are such lines. Words above all of a log have none of its bits, as where 64 times their number is 0
+/// or 64 modulo 2^64.
+pub fn takes_out_by_the_mode(alloc: Global) -> bool {
+    let (Some(get), Some(clear)) = (line_of(alloc, "get 0"), line_of(alloc, "clear 0 0 64")) else {
+        return false;
+    };
+    let Some(found) = five_slots().get(0) else {
+        return false;
+    };
+    let far = get.command.mask_asked(&found.slot, 1 << 58);
+    let farther = get.command.mask_asked(&found.slot, (1 << 58) + 1);
+    let get = takes_out(&get.command) == (true, false, false);
+    get && takes_out(&clear.command) == (true, true, true) && far == 0 && farther == 0
 }

@@ -1,6 +1,5 @@
 //! What stands in the rows of a table.
-use std::alloc::Global;
-use std::test::Fail;
+use std::alloc::{AllocError, Global};
 
 // The number that the word is: in decimal digits, or in hex after `0x`.
 fn number(word: &str) -> Option<u64> {
@@ -11,7 +10,7 @@ fn number(word: &str) -> Option<u64> {
 }
 
 /// The numbers among the words of a row.
-pub fn numbers(alloc: Global, row: &str) -> Result<Vec<u64>, Fail> {
+pub fn numbers(alloc: Global, row: &str) -> Result<Vec<u64>, AllocError> {
     let mut numbers = Vec::new(alloc);
     for word in row.split(' ') {
         if let Some(number) = number(word) {

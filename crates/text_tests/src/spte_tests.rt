@@ -1,20 +1,23 @@
 //! Entries, host words, flags and the map of words, by their numbers.
 
-use crate::expected_rows::expect;
 use spte_words::{Area, HostWord, SlotFlags, Spte, SpteKind, WordMap};
-use std::test::Fail;
 
-// The first pair of numbers that aren't the same.
-fn first_other(pairs: &[(u64, u64)]) -> Option<usize> {
-    for (i, (found, wanted)) in pairs.iter().enumerate() {
+// Whether the numbers of each pair are the same.
+fn are_same(pairs: &[(u64, u64)]) -> bool {
+    for (found, wanted) in pairs {
         if found != wanted {
-            return Some(i);
+            return false;
         }
     }
-    None
+    true
 }
 
-fn entry_words() -> (Option<usize>, bool) {
+/// Whether entries are these words, of these kinds by level, with these children.
+#[tactic(auto, using(spte_words::proofs::ReadsEntries::leaf_frame))]
+pub fn entries_are_these() -> bool {
+    let large = Spte::from_word(0x600000000200887);
+    let child = Spte::leaf(3, 0x40000, false, true, true).child(3, 2);
+    let last = Spte::leaf(2, 512, true, true, true).child(2, 511);
     let leaf = Spte::leaf(1, 1, true, true, true);
     let words = [
         (leaf.word(), 0x600000000001807),
@@ -22,58 +25,28 @@ fn entry_words() -> (Option<usize>, bool) {
         (Spte::table(3).word(), 0x3807),
         (Spte::absent().word(), 0),
         (Spte::frozen().word(), 0x5a0),
+        (child.word(), 0x600000040400885),
+        (last.word(), 0x6000000003ff807),
+        (large.frame(), 512),
+        (Spte::level_span(3), 262_144),
     ];
-    (
-        first_other(&words),
-        leaf.without_write().with_write() == leaf,
-    )
-}
-
-#[test]
-fn entries_are_these_words(rt: HostRuntime) -> Result<(), Fail> {
-    expect(&rt, entry_words());
-    Ok(())
-}
-
-fn kinds_by_level() -> bool {
-    let is_table = Spte::from_word(0x3807).kind(4) == SpteKind::Table(3);
-    let is_leaf = Spte::from_word(0x3807).kind(1) == SpteKind::Leaf;
-    let is_frozen = Spte::from_word(0x5a0).kind(2) == SpteKind::Frozen;
-    let is_absent = Spte::from_word(0).kind(2) == SpteKind::Absent;
-    is_table && is_leaf && is_frozen && is_absent
-}
-
-fn large_leaf() -> (Option<usize>, bool) {
-    let large = Spte::from_word(0x600000000200887);
-    let numbers = [(large.frame(), 512), (Spte::level_span(3), 262_144)];
     let is_leaf = large.kind(2) == SpteKind::Leaf;
     let is_writable = large.is_writable() && large.is_host_writable() && large.is_mmu_writable();
-    (first_other(&numbers), is_leaf && is_writable)
+    let is_table = Spte::from_word(0x3807).kind(4) == SpteKind::Table(3);
+    let is_small = Spte::from_word(0x3807).kind(1) == SpteKind::Leaf;
+    let is_frozen = Spte::from_word(0x5a0).kind(2) == SpteKind::Frozen;
+    let is_absent = Spte::from_word(0).kind(2) == SpteKind::Absent;
+    let is_kind = is_table && is_small && is_frozen && is_absent;
+    are_same(&words)
+        && leaf.without_write().with_write() == leaf
+        && is_leaf
+        && is_writable
+        && is_kind
 }
 
-#[test]
-fn entries_are_read_by_level(rt: HostRuntime) -> Result<(), Fail> {
-    let (first, is_large) = large_leaf();
-    expect(&rt, (first, is_large && kinds_by_level()));
-    Ok(())
-}
-
-#[test]
-#[tactic(auto, using(spte_words::proofs::ReadsEntries::leaf_frame))]
-fn children_of_a_large_leaf(rt: HostRuntime) -> Result<(), Fail> {
-    let huge = Spte::leaf(3, 0x40000, false, true, true);
-    let child = huge.child(3, 2);
-    assert_eq!(rt; child.word(), 0x600000040400885);
-    assert_eq!(rt;
-        Spte::leaf(2, 512, true, true, true).child(2, 511).word(),
-        0x6000000003ff807
-    );
-    Ok(())
-}
-
-// Rows of an entry, its level, a place, and the word that stands there in a table that is linked in
-// its place: of a large leaf the child, and of any other entry nothing.
-fn words_below() -> Option<usize> {
+/// Whether these are words below entries: rows of an entry, its level, a place, and the word that stands there in a table that is linked in
+/// its place: of a large leaf the child, and of any other entry nothing.
+pub fn words_below() -> bool {
     let rows = [
         (0x600000000200887, 2, 0, 0x600000000200807),
         (0x600000000200887, 2, 1, 0x600000000201807),
@@ -89,21 +62,16 @@ fn words_below() -> Option<usize> {
         (0x5a0, 2, 3, 0),
         (0, 3, 511, 0),
     ];
-    for (i, (entry, level, place, wanted)) in rows.iter().enumerate() {
-        if *place < 512 && Spte::from_word(*entry).below(*level, *place).word() != *wanted {
-            return Some(i);
+    for (entry, level, place, wanted) in rows {
+        if place < 512 && Spte::from_word(entry).below(level, place).word() != wanted {
+            return false;
         }
     }
-    None
+    true
 }
 
-#[test]
-fn words_below_an_entry(rt: HostRuntime) -> Result<(), Fail> {
-    expect(&rt, (words_below(), true));
-    Ok(())
-}
-
-fn host_words() -> (Option<usize>, bool) {
+/// Whether host words and flags are these.
+pub fn host_words_and_flags() -> bool {
     let host = HostWord::new(5, true, true, 1);
     let huge = HostWord::from_word(0x20000d);
     let numbers = [
@@ -112,30 +80,15 @@ fn host_words() -> (Option<usize>, bool) {
         (huge.frame(), 512),
     ];
     let is_read_only = huge.is_present() && !huge.is_writable();
-    (
-        first_other(&numbers),
-        is_read_only && HostWord::from_word(20487) == host,
-    )
-}
-
-fn slot_flags() -> (Option<usize>, bool) {
     let flags = SlotFlags::new(true, false, true);
     let is_so = flags.is_live() && !flags.is_read_only() && flags.is_logged();
-    (
-        first_other(&[(flags.word(), 5)]),
-        is_so && SlotFlags::from_word(5) == flags,
-    )
+    let are_flags = flags.word() == 5 && is_so && SlotFlags::from_word(5) == flags;
+    are_same(&numbers) && is_read_only && HostWord::from_word(20487) == host && are_flags
 }
 
-#[test]
-fn host_words_and_flags(rt: HostRuntime) -> Result<(), Fail> {
-    expect(&rt, host_words());
-    expect(&rt, slot_flags());
-    Ok(())
-}
-
+/// Whether words stand at these places.
 #[tactic(auto, unfolding(spte_words::specs::Areas::total))]
-fn map_places() -> (Option<usize>, bool) {
+pub fn map_places() -> bool {
     let map = WordMap::new(1024, 1040, 1, 64, 5);
     let places = [
         (u64::from(map.word_of_root(0)), 0),
@@ -149,11 +102,5 @@ fn map_places() -> (Option<usize>, bool) {
     ];
     let is_state = map.area_of(12) == (Area::State, 4);
     let is_pool = map.area_of(33902) == (Area::Pool, 32767);
-    (first_other(&places), is_state && is_pool)
-}
-
-#[test]
-fn places_of_a_map(rt: HostRuntime) -> Result<(), Fail> {
-    expect(&rt, map_places());
-    Ok(())
+    are_same(&places) && is_state && is_pool
 }
