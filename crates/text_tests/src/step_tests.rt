@@ -318,53 +318,58 @@ pub const OTHERS: [Turn; 13] = [
     ),
 ];
 
-/// Whether a turn of v0 on the lock is told so, for each way in which it ends.
+// How a turn of v0 on the lock is told that goes on or delays its line.
+const DELAYS: [(Ending<'static>, &str); 5] = [
+    (Ending::GoesOn, "1 v0 share lock 0x2 -> 0x3"),
+    (Ending::Waits, "1 v0 share lock 0x2 -> 0x3 waits"),
+    (
+        Ending::Open {
+            count: 1,
+            start: 16,
+            end: 32,
+        },
+        "1 v0 share lock 0x2 -> 0x3 begins anew (1 open over 16 to 32)",
+    ),
+    (
+        Ending::Moved { old: 0, now: 1 },
+        "1 v0 share lock 0x2 -> 0x3 begins anew (moved 0 to 1)",
+    ),
+    (
+        Ending::Lost {
+            place: WordPlace {
+                area: Area::Pool,
+                index: 0,
+            },
+            read: 0,
+            seen: 0x803,
+        },
+        "1 v0 share lock 0x2 -> 0x3 begins anew (pool[0][0] held 0x0, holds 0x803)",
+    ),
+];
+
+/// Whether the same turn is told so, for each way in which it ends.
 pub fn tells_how_turns_end(alloc: Global) -> bool {
+    let row = row(&(15, Area::Lock, 0, 0, 2, 3, ""));
+    for (ending, wanted) in DELAYS {
+        if !is_line(alloc, &row, &ending, wanted) {
+            return false;
+        }
+    }
     let reached = Answer::Reached { frame: 1, value: 0 };
     let refused = Answer::Refused(Refusal::BadId);
-    let place = WordPlace {
-        area: Area::Pool,
-        index: 0,
-    };
-    let endings = [
-        (Ending::GoesOn, "1 v0 share lock 0x2 -> 0x3"),
-        (Ending::Waits, "1 v0 share lock 0x2 -> 0x3 waits"),
+    let answers = [
         (
-            Ending::Open {
-                count: 1,
-                start: 16,
-                end: 32,
-            },
-            "1 v0 share lock 0x2 -> 0x3 begins anew (1 open over 16 to 32)",
-        ),
-        (
-            Ending::Moved { old: 0, now: 1 },
-            "1 v0 share lock 0x2 -> 0x3 begins anew (moved 0 to 1)",
-        ),
-        (
-            Ending::Lost {
-                place,
-                read: 0,
-                seen: 0x803,
-            },
-            "1 v0 share lock 0x2 -> 0x3 begins anew (pool[0][0] held 0x0, holds 0x803)",
-        ),
-        (
-            Ending::Answers(&reached),
+            &reached,
             "1 v0 share lock 0x2 -> 0x3 answers frame 1 value 0",
         ),
+        (&Answer::Done, "1 v0 share lock 0x2 -> 0x3 answers done"),
         (
-            Ending::Answers(&Answer::Done),
-            "1 v0 share lock 0x2 -> 0x3 answers done",
-        ),
-        (
-            Ending::Answers(&refused),
+            &refused,
             "1 v0 share lock 0x2 -> 0x3 answers refused bad-id",
         ),
     ];
-    let row = row(&(15, Area::Lock, 0, 0, 2, 3, ""));
-    for (ending, wanted) in endings {
-        if !is_line(alloc, &row, &ending, wanted) {
+    for (answer, wanted) in answers {
+        if !is_line(alloc, &row, &Ending::Answers(answer), wanted) {
             return false;
         }
     }

@@ -6,7 +6,7 @@ use crate::log_command_tests::rows_that_come;
 use crate::slot_set_tests::{all_come, first_slot};
 use crate::step_tests::are_told;
 use crate::{
-    answer_tests, flat_tests, io_tests, kept_tests, log_command_tests, need_tests,
+    answer_tests, flat_tests, io_tests, kept_tests as kept, log_command_tests, need_tests,
     slot_set_tests as sets, spte_tests, step_tests,
 };
 use core_views::Actor;
@@ -49,52 +49,28 @@ fn tables_come_out(rt: HostRuntime) {
 #[test]
 fn reads_and_writes(rt: HostRuntime) {
     let alloc = rt.alloc();
-    expect_so(
-        &rt,
-        "a trace",
-        is_read(alloc, kept_tests::TRACE, &kept_tests::KEPT),
-    );
-    expect_so(
-        &rt,
-        "deletions",
-        is_read(alloc, kept_tests::DELETIONS, &kept_tests::KEPT_DELETIONS),
-    );
-    expect_so(
-        &rt,
-        "readings",
-        is_read(alloc, kept_tests::READINGS, &kept_tests::KEPT_READINGS),
-    );
-    expect_so(&rt, "go", kept_tests::keeps_where_go_stands(alloc));
-    expect_so(&rt, "kinds", kept_tests::knows_each_kind());
+    let trace = is_read(alloc, kept::TRACE, &kept::KEPT);
+    expect_so(&rt, "a trace", trace);
+    let deletions = is_read(alloc, kept::DELETIONS, &kept::KEPT_DELETIONS);
+    expect_so(&rt, "deletions", deletions);
+    let readings = is_read(alloc, kept::READINGS, &kept::KEPT_READINGS);
+    expect_so(&rt, "readings", readings);
+    expect_so(&rt, "go", kept::keeps_where_go_stands(alloc));
+    expect_so(&rt, "kinds", kept::knows_each_kind());
     expect_so(&rt, "need", need_tests::slots_count_for_nothing(alloc));
-    expect_so(
-        &rt,
-        "modes",
-        log_command_tests::takes_out_by_the_mode(alloc),
-    );
-    expect_so(
-        &rt,
-        "answers",
-        answer_tests::prints_line_after_line(alloc) == Some(true),
-    );
+    let modes = log_command_tests::takes_out_by_the_mode(alloc);
+    expect_so(&rt, "modes", modes);
+    let answers = answer_tests::prints_line_after_line(alloc);
+    expect_so(&rt, "answers", answers == Some(true));
     expect_so(&rt, "endings", step_tests::tells_how_turns_end(alloc));
     expect_so(&rt, "fills", step_tests::tells_fills(alloc));
     expect_so(&rt, "places of steps", step_tests::finds_places());
-    expect_so(
-        &rt,
-        "a fault",
-        matches!(io_tests::reads_nines_after_a_fault(alloc), Ok(true)),
-    );
-    expect_so(
-        &rt,
-        "chunks",
-        matches!(io_tests::reads_each_chunk(alloc), Ok(true)),
-    );
-    expect_so(
-        &rt,
-        "two writes",
-        matches!(io_tests::writes_one_of_two(alloc), Ok(true)),
-    );
+    let fault = io_tests::reads_nines_after_a_fault(alloc);
+    expect_so(&rt, "a fault", matches!(fault, Ok(true)));
+    let chunks = io_tests::reads_each_chunk(alloc);
+    expect_so(&rt, "chunks", matches!(chunks, Ok(true)));
+    let writes = io_tests::writes_one_of_two(alloc);
+    expect_so(&rt, "two writes", matches!(writes, Ok(true)));
     expect_so(&rt, "failures", io_tests::tells_failures());
     expect_so(&rt, "a reader", io_tests::reads_abc());
     expect_so(&rt, "a writer", io_tests::writes_four());
