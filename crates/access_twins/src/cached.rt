@@ -39,8 +39,9 @@ fn is_usable(gfn: u64, write: bool, translation: &Translation) -> bool
     covers(gfn, translation) && allows(write, translation)
 }
 
-// The first translation that covers the guest frame and allows the access.
-fn first_usable(gfn: u64, write: bool, translations: &[Translation]) -> Option<Translation>
+// The first of these few translations that covers the guest frame and allows the access.
+#[inline(always)]
+fn first_of_few(gfn: u64, write: bool, translations: &[Translation]) -> Option<Translation>
     requires { All IsAtLeafLevel translations.now }
     ensures { result ≡ first_usable gfn write translations.now }
 {
@@ -50,6 +51,22 @@ fn first_usable(gfn: u64, write: bool, translations: &[Translation]) -> Option<T
         }
     }
     None
+}
+
+// The first one of any number of them. (It looks at eight at a time: a loop over a known number is
+// unrolled.)
+fn first_usable(gfn: u64, write: bool, translations: &[Translation]) -> Option<Translation>
+    requires { All IsAtLeafLevel translations.now }
+    ensures { result ≡ first_usable gfn write translations.now }
+{
+    let mut left = translations;
+    while let Some((few, others)) = left.split_first_chunk::<8>() {
+        if let Some(translation) = first_of_few(gfn, write, few) {
+            return Some(translation);
+        }
+        left = others;
+    }
+    first_of_few(gfn, write, left)
 }
 
 /// The newest translation that covers the guest frame and allows the access;

@@ -198,7 +198,10 @@ fn stay_kind(place: AccessPlace, hand: &Hand, line: &Line) -> Kind
         AccessPlace::Leave(Leaving::Faults { .. }) => {
             kind_made(&own_task(PartStep::Leave, own, 0), hand)
         }
-        AccessPlace::Fault(place) => fault_kind(place, hand, line),
+        AccessPlace::Fault(place) => {
+            let kind = fault_kind(place, hand, line);
+            kind
+        }
     }
 }
 
@@ -216,8 +219,14 @@ pub fn next_kind(hand: &Hand) -> Kind
         (Place::Between, Command::Access { .. }) => {
             stay_kind(AccessPlace::Enter { again: false }, hand, line)
         }
-        (Place::Host(place), _) => host_kind(place, hand, line),
-        _ => kind_of_form(hand, line),
+        (Place::Host(place), _) => {
+            let kind = host_kind(place, hand, line);
+            kind
+        }
+        _ => {
+            let kind = kind_of_form(hand, line);
+            kind
+        }
     }
 }
 
@@ -272,31 +281,31 @@ fn record_step(place: Place, hand: &mut Hand)
     }
 }
 
-// Where the line stands after the step of a place, which is none of an access and reads no log.
+// Where the line stands after the step of a place, which is none of an access, reads no log and
+// changes no host page.
 fn outcome(place: Place, line: &Line, hand: &Hand, found: u64) -> Outcome
     requires part { PartRests hand.now.core }
     requires line { IsCommandFor hand.now.core.state.sizes line.now.actor line.now.command }
     requires rests { RestsAt place line.now.command hand.now.core }
     requires other { (p : LogPlace) → place ≢ at.Log p }
+    requires no_host { (p : HostPlace) → place ≢ at.Host p }
     requires no_access { (p : AccessPlace) → place ≢ at.Access p }
     ensures { result ≡ outcome_at place line.now.command hand.now.core found }
 {
     match (place, &line.command) {
         (Place::SlotChange(place), command) => slot_change_outcome(place, command, hand, found),
-        (Place::Host(place), Command::ChangeHost { page, change }) => {
-            host_outcome(place, *page, *change, hand, found)
-        }
         (Place::HostRun(place), Command::ChangeRun { page, change }) => {
             host_run_outcome(place, *page, *change, hand, found)
         }
         (Place::Split(place), Command::Split { gfn }) => split_outcome(place, *gfn, hand, found),
-        (Place::Access(_), _) | (Place::Log(_), _) => unreachable!(),
+        (Place::Access(_), _) | (Place::Host(_), _) | (Place::Log(_), _) => unreachable!(),
         _ => Outcome::Goes(place),
     }
 }
 
-// The effect on the hand of a step of a line that is no access and reads no log, but for its topics
-// and for a flush.
+// The effect on the hand of a step of a line that is no access, reads no log and changes no host
+// page, but for its topics and for a flush.
+#[inline(never)]
 fn advance_line(hand: &mut Hand, place: Place, waits: bool, found: u64)
     requires left { length hand.old.core.answers < length hand.old.core.lines }
     requires part { PartRests hand.old.core }
@@ -305,6 +314,7 @@ fn advance_line(hand: &mut Hand, place: Place, waits: bool, found: u64)
     requires begun { IsUnderWay place }
     requires accepts { AcceptsAt place (next_line hand.old.core).command hand.old.core.state.sizes hand.old.core.slots }
     requires other { (p : LogPlace) → place ≢ at.Log p }
+    requires no_host { (p : HostPlace) → place ≢ at.Host p }
     requires no_access { (p : AccessPlace) → place ≢ at.Access p }
     requires waits { waits ≡ line_waits place (next_line hand.old.core).command hand.old.core found }
     requires room { 0 < hand.old.room }
@@ -332,7 +342,41 @@ fn advance_line(hand: &mut Hand, place: Place, waits: bool, found: u64)
     }
 }
 
-// The effect of a step of a line that reads a log on the hand, but for its topics.
+// The effect on the hand of a step of a line that changes a host page, but for its topics.
+#[inline(never)]
+fn advance_host(hand: &mut Hand, place: HostPlace, waits: bool, found: u64)
+    requires left { length hand.old.core.answers < length hand.old.core.lines }
+    requires part { PartRests hand.old.core }
+    requires rests { RestsAt (at.Host place) (next_line hand.old.core).command hand.old.core }
+    requires waits { waits ≡ line_waits (at.Host place) (next_line hand.old.core).command hand.old.core found }
+    requires room { 0 < hand.old.room }
+    ensures core { hand.new.core ≡ line_after (next_line hand.old.core) (at.Host place) hand.old.core found }
+    ensures room { length hand.new.core.answers + hand.new.room ≡ length hand.old.core.answers + hand.old.room }
+{
+    let line = hand.line();
+    let (number, actor) = (line.number, line.actor);
+    let Command::ChangeHost { page, change } = &line.command else {
+        unreachable!()
+    };
+    let outcome = host_outcome(place, *page, *change, hand, found);
+    let steps = steps_behind(waits, hand);
+    let delays = delays_behind(waits, hand);
+    let used = hand.progress().used;
+    match outcome {
+        Outcome::Goes(place) => hand.go_on(place, used, steps, delays),
+        Outcome::Ends(answer) => {
+            hand.go_on(Place::Between, used, steps, delays);
+            hand.answer(AnsweredLine {
+                number,
+                actor,
+                answer,
+            });
+        }
+    }
+}
+
+// The effect on the hand of a step of a line that reads a log, but for its topics.
+#[inline(never)]
 fn advance_log(hand: &mut Hand, place: LogPlace, waits: bool, found: u64)
     requires left { length hand.old.core.answers < length hand.old.core.lines }
     requires part { PartRests hand.old.core }
@@ -367,25 +411,52 @@ fn advance_log(hand: &mut Hand, place: LogPlace, waits: bool, found: u64)
     }
 }
 
+// The first step of a line that begins at this place, which is none of an access.
+#[inline(never)]
+fn step_first(hand: &mut Hand, place: Place, waits: bool, found: u64)
+    requires left { length hand.old.core.answers < length hand.old.core.lines }
+    requires part { PartRests hand.old.core }
+    requires line { IsCommandFor hand.old.core.state.sizes (next_line hand.old.core).actor (next_line hand.old.core).command }
+    requires rests { RestsAt place (next_line hand.old.core).command hand.old.core }
+    requires begun { IsUnderWay place }
+    requires accepts { AcceptsAt place (next_line hand.old.core).command hand.old.core.state.sizes hand.old.core.slots }
+    requires no_access { (p : AccessPlace) → place ≢ at.Access p }
+    requires waits { waits ≡ line_waits place (next_line hand.old.core).command hand.old.core found }
+    requires room { 0 < hand.old.room }
+    ensures core { hand.new.core ≡ line_after (next_line hand.old.core) place hand.old.core found }
+    ensures room { length hand.new.core.answers + hand.new.room ≡ length hand.old.core.answers + hand.old.room }
+{
+    match place {
+        Place::Log(place) => advance_log(hand, place, waits, found),
+        Place::Host(place) => advance_host(hand, place, waits, found),
+        Place::Access(_) => unreachable!(),
+        _ => advance_line(hand, place, waits, found),
+    }
+}
+
 // The step of the hand's line, which stands at no place of an access.
 #[inline(never)]
-fn step_form(hand: &mut Hand, kind: Kind, found: u64)
-    requires enabled { Enabled hand.old.core kind }
+fn step_form(hand: &mut Hand, waits: bool, found: u64)
     requires left { length hand.old.core.answers < length hand.old.core.lines }
     requires rests { Rests hand.old.core }
+    requires waits { waits ≡ line_waits (place_at hand.old.core.state.place hand.old.core) (line_at hand.old.core.state.place hand.old.core).command
+        hand.old.core found }
     requires no_access { (p : AccessPlace) → place_at hand.old.core.state.place hand.old.core ≢ at.Access p }
     requires room { 0 < hand.old.room }
     ensures line { hand.new.core
         ≡ line_after (line_at hand.old.core.state.place hand.old.core) (place_at hand.old.core.state.place hand.old.core) hand.old.core found }
     ensures room { length hand.new.core.answers + hand.new.room ≡ length hand.old.core.answers + hand.old.room }
 {
-    let waits = Waiting::of(kind, hand).waits(found);
     let line = hand.line();
-    let place = place_of(hand, line);
-    match place {
+    match hand.progress().place {
+        Place::Between => {
+            let place = first(hand, line);
+            step_first(hand, place, waits, found);
+        }
         Place::Log(place) => advance_log(hand, place, waits, found),
+        Place::Host(place) => advance_host(hand, place, waits, found),
         Place::Access(_) => unreachable!(),
-        _ => advance_line(hand, place, waits, found),
+        place => advance_line(hand, place, waits, found),
     }
 }
 
@@ -400,20 +471,21 @@ fn step_line(hand: &mut Hand, kind: Kind, found: u64)
     ensures room { length hand.new.core.answers + hand.new.room ≡ length hand.old.core.answers + hand.old.room }
 {
     if hand.has_line() && !step_access(hand, kind, found) {
-        step_form(hand, kind, found);
+        let waits = Waiting::of(kind, hand).waits(found);
+        step_form(hand, waits, found);
     }
 }
 
 // The effect of a step on the topics of the hand, where it may ask for the sizes.
 #[inline(never)]
-fn step_with_sizes(hand: &mut Hand, kind: Kind, found: u64)
+fn step_with_sizes(hand: &mut Hand, kind: &Kind, found: u64)
     requires sizes { AreSizes hand.old.core.state.sizes }
-    requires room { HasRoom (kind_named kind.code) hand.old.core.topics }
-    ensures core { hand.new.core ≡ record hand.old.core { topics = topics_after hand.old.core.state.sizes kind hand.old.core.topics found } }
+    requires room { HasRoom (kind_named kind.now.code) hand.old.core.topics }
+    ensures core { hand.new.core ≡ record hand.old.core { topics = topics_after hand.old.core.state.sizes kind.now hand.old.core.topics found } }
     ensures room { hand.new.room ≡ hand.old.room }
 {
     let sizes = hand.progress().sizes;
-    step_topics(&sizes, kind, hand.topics_mut(), found);
+    step_topics(&sizes, *kind, hand.topics_mut(), found);
 }
 
 // The effect of a step on the topics of the hand. Those steps of an access that ask for no sizes
@@ -429,8 +501,9 @@ fn advance_topics(hand: &mut Hand, kind: Kind, found: u64)
     match kind.named() {
         StepKind::Enter => go(hand.topics_mut(), Stay::Guest),
         StepKind::Leave => go(hand.topics_mut(), Stay::Outside),
+        StepKind::Control if kind.word == Area::Pause.number() => hand.topics_mut().pause = found,
         StepKind::Read | StepKind::Write | StepKind::Add => {}
-        _ => step_with_sizes(hand, kind, found),
+        _ => step_with_sizes(hand, &kind, found),
     }
 }
 

@@ -17,6 +17,7 @@ pub mod HostRows
 pub mod SplitLines
 pub mod Commands
 pub mod Words
+pub mod WordsPut
 pub mod Bytes
 pub mod Reasons
 pub mod Ranges

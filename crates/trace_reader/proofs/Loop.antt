@@ -4,7 +4,7 @@ use Rattle.std.proofs.Common.{sym, ap, ◌∙◌, append_assoc, arith, ◌==◌,
 use Rattle.std.proofs.lemmas.List.{append-nil, length-append}
 use Rattle.std.proofs.lemmas.List.Splits.{slice_split_first}
 use Rattle.std.proofs.lemmas.Bool.Decides.{nat_tests}
-use Rattle.std.specs.List.{onto_first, position, position_or_len}
+use Rattle.std.specs.List.{onto_first, position, position_or_len, slice_split}
 use Rattle.std.specs.declared.option.Option.TheVariants.{Some, None}
 use Rattle.core_views.specs.declared.trace.Header.{Header}
 use Rattle.core_views.specs.declared.trace.Item.{Item}
@@ -43,9 +43,11 @@ on_test : (c : Bool) (x : ℕ) (xs : List ℕ) (n : ℕ) (parts : List (List ℕ
 on_test true x xs n parts le rest = absurd (omega arith)
 on_test false x xs n parts le rest = ap (onto_first x) (rest (omega arith))
 
-one_part : (xs : List ℕ) → length xs ≤ position_or_len (λ b. b == 10) xs → parts_of xs ≡ xs ∷ []
-one_part [] le = refl
-one_part (x ∷ xs) le = on_test (x == 10) x xs (position_or_len (λ b. b == 10) xs) (parts_of xs) (omega arith) (λ h. one_part xs h)
+-- A text is cut at each byte c.
+one_part : (c : ℕ) (xs : List ℕ) → length xs ≤ position_or_len (λ b. b == c) xs → slice_split (λ b. b == c) xs ≡ xs ∷ []
+one_part c [] le = refl
+one_part c (x ∷ xs) le =
+    on_test (x == c) x xs (position_or_len (λ b. b == c) xs) (slice_split (λ b. b == c) xs) (omega arith) (λ h. one_part c xs h)
 
 not_found : (i n : ℕ) → None ≡ cond (nat_lt i n) (Some i) None → n ≤ i
 not_found i n e = grind (arith, nat_tests)
@@ -53,13 +55,14 @@ not_found i n e = grind (arith, nat_tests)
 found : (i n at : ℕ) → Some at ≡ cond (nat_lt i n) (Some i) None → (i < n) × (at ≡ i)
 found i n at e = grind (arith, nat_tests)
 
-pub no_end : (xs : List ℕ) → None ≡ position (λ b. b == 10) xs → parts_of xs ≡ xs ∷ []
-no_end xs e = one_part xs (not_found _ _ e)
+pub no_end : (c : ℕ) (xs : List ℕ) → None ≡ position (λ b. b == c) xs → slice_split (λ b. b == c) xs ≡ xs ∷ []
+no_end c xs e = one_part c xs (not_found _ _ e)
 
-pub an_end : (xs : List ℕ) (at : ℕ) → Some at ≡ position (λ b. b == 10) xs → parts_of xs ≡ take at xs ∷ parts_of (drop (at + 1) xs)
-an_end xs at e =
-    let f = found (position_or_len (λ b. b == 10) xs) (length xs) at e in
-    rw f.1 (slice_split_first (λ b. b == 10) xs 0 f.0)
+pub an_end : (c : ℕ) (xs : List ℕ) (at : ℕ) → Some at ≡ position (λ b. b == c) xs
+    → slice_split (λ b. b == c) xs ≡ take at xs ∷ slice_split (λ b. b == c) (drop (at + 1) xs)
+an_end c xs at e =
+    let f = found (position_or_len (λ b. b == c) xs) (length xs) at e in
+    rw f.1 (slice_split_first (λ b. b == c) xs 0 f.0)
 
 nothing_left : (h : Header) (n at : ℕ) (go_seen : Bool) (rest : List ℕ) → length rest < 1 → lines_of h n at go_seen (parts_of rest) ≡ Ok []
 unfolding lines_of

@@ -1,5 +1,5 @@
 ghost use Rattle.std.specs.Prelude.{◌≡◌, ◌≤◌, ◌==◌, ℕ, map, IfOk, IfSome, OnOk, IfNone};
-ghost use Rattle.std.specs.List.{list_all};
+ghost use Rattle.std.specs.List.{list_all, position};
 ghost use Rattle.trace_reader.specs.Forms.{words_of};
 ghost use Rattle.trace_reader.specs.Sayings.{IsSayingOf, said as said_of};
 ghost use Rattle.trace_reader.specs.Lines.{is_plain, is_skipped as is_skipped_line, fault_of, content, line_of};
@@ -53,11 +53,24 @@ pub fn fault(number: u32, end: usize, ended: bool, bytes: &[u8]) -> Option<Reaso
     }
 }
 
-/// The words of a line: what stands between its spaces.
-pub fn words(alloc: Global, line: &[u8]) -> Result<Vec<&[u8]>, AllocError>
-    ensures { IfOk result (λ v. map (λ w. w.now) v.items ≡ words_of line.now) }
+fn word_end(bytes: &[u8]) -> Option<usize>
+    ensures { result ≡ position (λ b. b == 32) bytes.now }
 {
-    line.split(|byte| *byte == b' ').collect(alloc)
+    bytes.iter().position(|byte| *byte == b' ')
+}
+
+/// Puts the words of a line, what stands between its spaces, in place of those of the line before.
+pub fn put_words<'a>(words: &mut Vec<&'a [u8]>, line: &'a [u8]) -> Result<(), AllocError>
+    ensures { OnOk result (map (λ w. w.now) words.new.items ≡ words_of line.now) }
+{
+    words.clear();
+    let mut rest = line;
+    while let Some(end) = word_end(rest) {
+        words.push(&rest[..end])?;
+        rest = &rest[end + 1..];
+    }
+    words.push(rest)?;
+    Ok(())
 }
 
 fn is_skipped(bytes: &[u8]) -> bool
@@ -70,28 +83,30 @@ fn is_skipped(bytes: &[u8]) -> bool
 }
 
 #[tactic(auto, unfolding(crate::specs::Sayings::said))]
-fn said(
+fn said<'a>(
     alloc: Global,
+    words: &mut Vec<&'a [u8]>,
     header: &Header,
     go_seen: bool,
     number: u32,
-    bytes: &[u8],
+    bytes: &'a [u8],
 ) -> Result<Saying, ReadError>
     requires { header.now.words ≤ 8 }
     ensures read { ReadsTo number (λ s. s) result (said_of header.now go_seen bytes.now) }
     ensures allowed { IfOk result (λ s. IsSayingOf header.now s) }
 {
-    let words = words(alloc, bytes)?;
-    words_said(alloc, header, go_seen, number, &words)
+    put_words(words, bytes)?;
+    words_said(alloc, header, go_seen, number, words)
 }
 
 #[tactic(auto, unfolding(crate::specs::Lines::content))]
-fn content_of(
+fn content_of<'a>(
     alloc: Global,
+    words: &mut Vec<&'a [u8]>,
     header: &Header,
     go_seen: bool,
     number: u32,
-    bytes: &[u8],
+    bytes: &'a [u8],
 ) -> Result<Option<Saying>, ReadError>
     requires { header.now.words ≤ 8 }
     ensures read { ReadsTo number (λ x. x) result (content header.now go_seen bytes.now) }
@@ -100,23 +115,24 @@ fn content_of(
     if is_skipped(bytes) {
         return Ok(None);
     }
-    match said(alloc, header, go_seen, number, bytes) {
+    match said(alloc, words, header, go_seen, number, bytes) {
         Ok(says) => Ok(Some(says)),
         Err(error) => Err(error),
     }
 }
 
 /// What a line after the header says, if it is not skipped; `go_seen`: whether
-/// `go` stands on a line before.
+/// `go` stands on a line before. `words` is room for its words.
 #[tactic(auto, unfolding(crate::specs::Lines::line_of))]
-pub fn line(
+pub fn line<'a>(
     alloc: Global,
+    words: &mut Vec<&'a [u8]>,
     header: &Header,
     go_seen: bool,
     number: u32,
     end: usize,
     ended: bool,
-    bytes: &[u8],
+    bytes: &'a [u8],
 ) -> Result<Option<Saying>, ReadError>
     requires { header.now.words ≤ 8 }
     ensures small { OnOk result (end ≤ 16777216) }
@@ -130,5 +146,5 @@ pub fn line(
             reason,
         });
     }
-    content_of(alloc, header, go_seen, number, bytes)
+    content_of(alloc, words, header, go_seen, number, bytes)
 }

@@ -54,13 +54,15 @@ pub fn lines(
     ensures allowed { IfOk result (λ body. IsBodyOf header.now body) }
 {
     let mut body = Body::new(alloc);
+    let mut words = Vec::new(alloc);
     let mut number = number;
     let mut at = at;
     let mut rest = bytes;
     while !rest.is_empty() {
         let (text, ended, after) = first_line(rest);
         at += taken(text, ended);
-        let found = line(alloc, header, body.go.is_some(), number, at, ended, text)?;
+        let go_seen = body.go.is_some();
+        let found = line(alloc, &mut words, header, go_seen, number, at, ended, text)?;
         body.put(number, found)?;
         number += 1;
         rest = after;

@@ -5,7 +5,7 @@ ghost use Rattle.trace_reader.specs.Reading.{head_of, reading, Outcome, Answers,
 
 use crate::Read;
 use crate::header::header;
-use crate::line::{fault, words};
+use crate::line::{fault, put_words};
 use crate::lines::{first_line, lines, taken};
 use crate::refusal::ReadError;
 use core_views::{Header, NoMemory, Trace};
@@ -21,7 +21,8 @@ fn head(alloc: Global, end: usize, ended: bool, text: &[u8]) -> Result<Header, R
     if let Some(reason) = fault(1, end, ended, text) {
         return Err(ReadError::Refused { line: 1, reason });
     }
-    let words = words(alloc, text)?;
+    let mut words = Vec::new(alloc);
+    put_words(&mut words, text)?;
     header(alloc, &words)
 }
 

@@ -26,7 +26,7 @@ returns-in_err-found-clause-read c =
     (unrolled c.args.header.now c.loop-rest.number c.loop-rest.at c.taken-at.result (is_some c.loop-rest.body.go) c.loop-rest.rest.now
     c.first_line-ended.result.0.now c.first_line-ended.result.2.now c.first_line-ended.result.1 (grind (arith, common_steps)) f.parts f.ended f.length
     c.taken-at.ensures)
-    (rw c.is_some.ensures at c.in_err-found.ensures.read) c.loop-rest.invariant.so_far)
+    (rw c.is_some-go_seen.ensures at c.in_err-found.ensures.read) c.loop-rest.invariant.so_far)
 
 pub loop-rest-preserved : goal.loop-rest-preserved
 loop-rest-preserved c =
@@ -40,7 +40,7 @@ loop-rest-preserved c =
           (unrolled c.args.header.now c.loop-rest.number c.loop-rest.at c.taken-at.result (is_some c.loop-rest.body.go) c.loop-rest.rest.now
           c.first_line-ended.result.0.now c.first_line-ended.result.2.now c.first_line-ended.result.1 (grind (arith, common_steps)) f.parts f.ended
           f.length c.taken-at.ensures)
-          (line_first c.args.header.now (is_some c.loop-rest.body.go) _) (rw c.is_some.ensures at c.in_ok-found.ensures.read)
+          (line_first c.args.header.now (is_some c.loop-rest.body.go) _) (rw c.is_some-go_seen.ensures at c.in_ok-found.ensures.read)
           c.in_ok-put.ensures c.loop-rest.invariant.so_far;
       room = omega arith;
       small = c.in_ok-found.ensures.small;
