@@ -34,7 +34,7 @@ use manager_twins::{
 };
 use mmu_core::{LogNext, Outcome};
 use part_steps::{PartStep, Task, map_of};
-use part_twins::{Hand, go, kind_of, own_task, part_task, step_topics, walk_task};
+use part_twins::{Hand, begin_stay, kind_of, own_task, part_task, step_topics, walk_task};
 use spte_words::Area;
 
 // Where a line begins. (Few steps begin one: kept out of the way of the others.)
@@ -499,8 +499,8 @@ fn advance_topics(hand: &mut Hand, kind: Kind, found: u64)
     ensures room { hand.new.room ≡ hand.old.room }
 {
     match kind.named() {
-        StepKind::Enter => go(hand.topics_mut(), Stay::Guest),
-        StepKind::Leave => go(hand.topics_mut(), Stay::Outside),
+        StepKind::Enter => begin_stay(hand.topics_mut(), Stay::Guest),
+        StepKind::Leave => begin_stay(hand.topics_mut(), Stay::Outside),
         StepKind::Control if kind.word == Area::Pause.number() => hand.topics_mut().pause = found,
         StepKind::Read | StepKind::Write | StepKind::Add => {}
         _ => step_with_sizes(hand, &kind, found),

@@ -1,5 +1,5 @@
 -- Which step of the machine each step of a part is: its kind, its word, what it expects there and what it writes.
-use Rattle.std.specs.Prelude.{◌/◌, ◌%◌, ◌^◌, ◌<◌, ℕ, true}
+use Rattle.std.specs.Prelude.{◌/◌, ◌%◌, ◌^◌, ◌<◌, ℕ, Bool, true, false}
 use Rattle.std.specs.Int.{bit_not}
 use mir.Syntax.{w64}
 use Rattle.core_views.specs.declared.kind.Kind.{Kind}
@@ -59,6 +59,14 @@ exchanges_host k new_ t note =
 -- a store of an end of the range of open invalidations, into which this end of the actor's own one went
 abbrev pub stores_bound : Area → ℕ → ℕ → ℕ → Task
 stores_bound a bound gfn note = record { kind = kind.Set; area = a; index = 0; expected = bound; written = gfn; may_end = note }
+
+-- The step is on the actor's own state word.
+abbrev pub is_own_state : PartStep → Bool
+is_own_state part.Enter = true
+is_own_state part.Leave = true
+is_own_state part.Begin = true
+is_own_state part.End = true
+is_own_state _ = false
 
 -- what the step does for the actor at a place, that holds these topics
 abbrev pub part_task : PartStep → ℕ → Topics → ℕ → Task

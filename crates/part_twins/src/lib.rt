@@ -12,14 +12,14 @@ mod task;
 pub use hands::{Closing, Hand, SlotSet};
 pub use needs::{has_needs, needs_line, next_watched};
 pub use part_step::{
-    own_task, page_owned, part_kind, part_task, table_page, walk as walk_task, word_below,
-    word_looked, words_filled,
+    own_task, page_owned, part_kind, part_task, table_page, walk_task, word_below, word_looked,
+    words_filled,
 };
 pub use runs::maps_run;
 pub use slot_words::{SLOT_SET_ROLE, is_fixable, page_of, set_word};
 pub use task::kind_of;
 pub use topic_twins::{
-    WRITER, entry_index, frame_owned, go, has_entry, has_to_flush, has_writer, in_section, is_done,
-    is_several, is_won, level_looked, looked_on, makes_run, one_look, run_looked, search,
+    WRITER, begin_stay, entry_index, frame_owned, has_entry, has_to_flush, has_writer, in_section,
+    is_done, is_several, is_won, level_looked, looked_on, makes_run, one_look, run_looked, search,
     step_topics, sweep_on, swept_to, word_next, words_moved,
 };

@@ -8,7 +8,7 @@ ghost use Rattle.spte_words.specs.declared.area.Area.TheVariants as Area;
 ghost use Rattle.spte_words.specs.Areas.{IsWordMap, pool_index, size_of};
 ghost use Rattle.part_steps.specs.PartBounds.{PartRests};
 ghost use Rattle.part_steps.specs.PartTasks.{all_but, entry_index, entry_task, leaf_fixed, leaf_written, own_index};
-ghost use Rattle.part_steps.specs.PartTasks.{changes_next, page_owed, page_owned, page_retired, page_to_change};
+ghost use Rattle.part_steps.specs.PartTasks.{changes_next, is_own_state, page_owed, page_owned, page_retired, page_to_change};
 ghost use Rattle.part_steps.specs.PartTasks.{exchanges_host, part_kind, part_task, set_held, stores_bound, table_page, word_looked, words_filled, works};
 ghost use Rattle.part_steps.specs.PartSteps.{PartNeeds};
 ghost use Rattle.part_steps.specs.SlotWords.{slot_index};
@@ -185,7 +185,7 @@ fn slot(map: &WordMap, search: &SlotSearch, note: u64) -> Task
 
 /// Loads the guest frame's entry in the table that the walk has come to.
 #[inline(always)]
-pub fn walk(map: &WordMap, walk: &TableWalk, gfn: u64, note: u64) -> Task
+pub fn walk_task(map: &WordMap, walk: &TableWalk, gfn: u64, note: u64) -> Task
     requires map { IsWordMap map.now }
     requires from { 1 ≤ walk.now.level }
     requires to { walk.now.level ≤ 4 }
@@ -209,7 +209,7 @@ fn sweep(map: &WordMap, from: &TableWalk, gfn: u64, note: u64) -> Task
 {
     let mut at = *from;
     go_up(&mut at);
-    walk(map, &at, gfn, note)
+    walk_task(map, &at, gfn, note)
 }
 
 // Loads it where a walk begins anew at its root.
@@ -222,7 +222,7 @@ fn walk_anew(map: &WordMap, from: &TableWalk, gfn: u64, note: u64) -> Task
 {
     let mut at = *from;
     begin_anew(&mut at);
-    walk(map, &at, gfn, note)
+    walk_task(map, &at, gfn, note)
 }
 
 // Exchanges the guest frame's entry in the table that the walk has come to.
@@ -425,6 +425,7 @@ fn give_frame(owned: Option<OwnedFrame>, note: u64) -> Task
 /// What the step does with the actor's own state word.
 #[inline(always)]
 pub fn own_task(step: PartStep, own: u64, note: u64) -> Task
+    requires of_state { is_own_state step ≡ true }
     ensures area { result.area ≡ Area.State }
     ensures index { result.index ≡ own }
     ensures enter { step ≡ Enter → result ≡ works StepKind.Enter Area.State own guest_bits note }
@@ -473,7 +474,7 @@ pub fn part_task(hand: &Hand, step: PartStep, note: u64) -> Task
         PartStep::RangeStart => Task::load(StepKind::Control, Area::RangeStart, 0, note),
         PartStep::RangeEnd => Task::load(StepKind::Control, Area::RangeEnd, 0, note),
         PartStep::Root => Task::load(StepKind::Control, Area::Root, 0, note),
-        PartStep::Walk(gfn) => walk(map, &topics.walk, gfn, note),
+        PartStep::Walk(gfn) => walk_task(map, &topics.walk, gfn, note),
         PartStep::Sweep(gfn) => sweep(map, &topics.walk, gfn, note),
         PartStep::WalkAnew(gfn) => walk_anew(map, &topics.walk, gfn, note),
         PartStep::Link(gfn) => enter(map, &topics.walk, gfn, link(topics.owned), note),

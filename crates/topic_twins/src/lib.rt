@@ -23,4 +23,4 @@ pub use spans::{entry_index, span_of};
 pub use sweep::{
     begin_anew, go_up, has_entry, is_done, is_sweeping, sweep_on, swept_to, walks_anew,
 };
-pub use topics::{go, is_won, search, step_topics, tried_bit};
+pub use topics::{begin_stay, is_won, search, step_topics, tried_bit};

@@ -45,7 +45,7 @@ fn may_search(stay: Stay, hold: Hold) -> bool
 }
 
 /// The actor is there from now on, and has nothing of tables, slots and look-ups.
-pub fn go(topics: &mut Topics, stay: Stay)
+pub fn begin_stay(topics: &mut Topics, stay: Stay)
     ensures { topics.new ≡ begun stay topics.old }
 {
     topics.stay = stay;
@@ -646,9 +646,9 @@ pub fn step_topics(sizes: &Sizes, kind: Kind, topics: &mut Topics, found: u64)
     ensures { topics.new ≡ topics_after sizes.now kind topics.old found }
 {
     match kind.named() {
-        StepKind::Enter => go(topics, Stay::Guest),
-        StepKind::Leave | StepKind::End => go(topics, Stay::Outside),
-        StepKind::Begin => go(topics, Stay::Section),
+        StepKind::Enter => begin_stay(topics, Stay::Guest),
+        StepKind::Leave | StepKind::End => begin_stay(topics, Stay::Outside),
+        StepKind::Begin => begin_stay(topics, Stay::Section),
         StepKind::Walk => load_entry(sizes, kind, topics, found),
         StepKind::Swap => exchange_entry(sizes, kind, topics, found),
         StepKind::Mark => topics.owed = None,
