@@ -118,7 +118,8 @@ unfinished 2 vm
 5
 == .
 2
-usage: show_steps [weave | replay]
+no text: 
+usage: show_steps [steps] [weave | replay] [--help]
 --
 tdp 1 vcpus 2 workers 1 pages 1024 frames 1040 words 1 pool 64 cache 64 manual 0 hosts 0
 vm slot 0 0 16 0
