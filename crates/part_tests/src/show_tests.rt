@@ -142,6 +142,6 @@ pub fn makes_no_turn(alloc: Global) -> bool {
 
 /// Whether a call may have no words.
 pub fn has_no_words(alloc: Global) -> bool {
-    let wanted = "2\nusage: show_steps [weave | replay]\n";
+    let wanted = "2\nno text: \nusage: show_steps [steps] [weave | replay] [--help]\n";
     is_told(alloc, &Vec::new(alloc), 0, A_SLOT, wanted)
 }

@@ -8,23 +8,12 @@ use std::process::ExitCode;
 use step_printing::run;
 use tdp_io::{StdSink, StdSource};
 
-// The words ask for the usage line.
-fn asks_help(words: &[String]) -> bool {
-    match words {
-        [_, word] => word.as_str() == "--help",
-        _ => false,
-    }
-}
-
 fn main(rt: HostRuntime) -> ExitCode {
     let status = match arguments(&rt) {
         Ok(words) => {
             let mut src = StdSource::new(rt.reader());
             let mut out = StdSink::new(io::writer(&rt));
-            match run(rt.alloc(), &words, &mut src, &mut out) {
-                Status::Usage if asks_help(&words) => Status::Done,
-                status => status,
-            }
+            run(rt.alloc(), &words, &mut src, &mut out)
         }
         Err(NoMemory) => Status::NoMemory,
     };

@@ -27,7 +27,7 @@ use Rattle.step_printing.specs.Lines.{coming_text, steps_text}
 use Rattle.step_printing.specs.Puts.{Printed, PutsSteps, StopsSteps}
 use Rattle.step_printing.specs.Run.{IsRunSoFar, WritesSome, WritesSteps}
 use Rattle.weave_engine.specs.Statuses.{status_by, status_how}
-use Rattle.step_printing.specs.declared.command.Command.TheVariants.{Replay, Weave}
+use Rattle.show_options.specs.declared.asked.Command.TheVariants.{Replay, Weave}
 
 -- The printer has printed nothing, and prints for a machine of these sizes.
 pub record IsFresh (p : Printed) (z : Sizes) : Type 0 where

@@ -4,5 +4,5 @@ pub mod Laws
 pub mod Puts
 pub mod PutLaws
 pub mod Tells
-pub mod Output
 pub mod Run
+pub mod Prints

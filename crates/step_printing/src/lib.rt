@@ -1,7 +1,6 @@
 //! Each step of a run, one line for each turn: the program `show_steps`, but for its words and its ends.
 #![tactic(auto)]
 
-mod command;
 mod laws;
 mod lines;
 mod program;

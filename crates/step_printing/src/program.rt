@@ -1,43 +1,57 @@
 //! The whole program, but for its source, its sink and its words.
 ghost use Rattle.std.specs.Prelude.{◌≡◌, [], IfSome, None, false, map, string_bytes, take};
 ghost use Rattle.run_status.specs.Refusals.{rounds_limit};
-ghost use Rattle.run_status.specs.Statuses.{ReadCause, WriteCause, status_is_write_fault};
+ghost use Rattle.run_status.specs.Statuses.{ReadCause, WriteCause, WritesUsage, status_is_write_fault};
 ghost use Rattle.core_views.specs.Sizes.{sizes_of};
 ghost use Rattle.core_views.specs.Traces.{IsTrace};
+ghost use Rattle.show_options.specs.Faults.{fault_text};
+ghost use Rattle.step_printing.specs.Prints.{Prints, PrintsRun, WritesHelp, command_of};
 ghost use Rattle.step_printing.specs.Puts.{MayPrint, printed_by};
-ghost use Rattle.step_printing.specs.Run.{Prints, WritesSteps, command_named as named, command_of};
+ghost use Rattle.step_printing.specs.Run.{WritesSteps};
 
-use crate::command::Command;
 use crate::step_printer::StepPrinter;
 use core_views::{NoMemory, Sizes, Trace};
 use run_status::{ROUNDS, Status, refuse, usage};
+use show_options::{Asked, Command, Fault, push_fault, read_words, usage_text};
 use std::alloc::Global;
 use tdp_io::{Sink, Source};
 use trace_reader::{Read, read_trace};
 use weave_engine::{replay_with, status_of, weave_with};
 
-const USAGE: &str = "usage: show_steps [weave | replay]\n";
-
-// The command that the words name, the program's name first, if they name one.
-fn asked(words: &[String]) -> Option<Command>
-    ensures { result ≡ command_of (map string_bytes words.now) }
+// The run that is asked for.
+fn command_of(asked: &Asked) -> Command
+    ensures { result ≡ command_of asked.now }
 {
-    match words {
-        [_] => Some(Command::Weave),
-        [_, word] => command_named(word.as_str()),
-        _ => None,
+    match asked.command {
+        Some(command) => command,
+        None => Command::Weave,
     }
 }
 
-fn command_named(word: &str) -> Option<Command>
-    ensures { result ≡ named word.now }
+// Writes what is wrong with the words.
+fn refuse_words<K: Sink>(alloc: Global, words: &[String], fault: Fault, out: &mut K) -> Status
+    requires unfailed { K.failed out.old ≡ false }
+    ensures written { WritesUsage (fault_text (map string_bytes words.now) fault) (K.written out.old) (K.written out.new) result }
+    ensures write { WriteCause (K.faults out.old) (K.faults out.new) result }
+    ensures failed { K.failed out.new ≡ status_is_write_fault result }
 {
-    if word == "weave" {
-        Some(Command::Weave)
-    } else if word == "replay" {
-        Some(Command::Replay)
-    } else {
-        None
+    let mut text = String::new(alloc);
+    match push_fault(&mut text, words, fault) {
+        Ok(()) => usage(text.as_str(), out),
+        Err(NoMemory) => Status::NoMemory,
+    }
+}
+
+// Writes the usage, which was asked for.
+fn help<K: Sink>(out: &mut K) -> Status
+    requires unfailed { K.failed out.old ≡ false }
+    ensures written { WritesHelp (K.written out.old) (K.written out.new) result }
+    ensures write { WriteCause (K.faults out.old) (K.faults out.new) result }
+    ensures failed { K.failed out.new ≡ status_is_write_fault result }
+{
+    match usage(usage_text(), out) {
+        Status::Usage => Status::Done,
+        status => status,
     }
 }
 
@@ -92,6 +106,29 @@ fn run_trace<K: Sink>(
     print_steps(alloc, command, trace, limit, &mut printer)
 }
 
+// Runs the trace that `src` has left, so.
+fn run_command<S: Source, K: Sink>(
+    alloc: Global,
+    command: Command,
+    limit: u64,
+    src: &mut S,
+    out: &mut K,
+) -> Status
+    requires unfailed { K.failed out.old ≡ false }
+    ensures prints { IfSome (S.left src.old)
+        (λ input. PrintsRun command limit (take 16777217 input) (K.written out.old) (K.written out.new) result) }
+    ensures read { ReadCause (S.faults src.old) (S.faults src.new) result }
+    ensures write { WriteCause (K.faults out.old) (K.faults out.new) result }
+    ensures failed { K.failed out.new ≡ status_is_write_fault result }
+{
+    match read_trace(alloc, src) {
+        Err(NoMemory) => Status::NoMemory,
+        Ok(Read::ReadFault) => Status::ReadFault,
+        Ok(Read::Refused { line, reason }) => refuse(alloc, line, reason, out),
+        Ok(Read::Trace(trace)) => run_trace(alloc, command, &trace, limit, out),
+    }
+}
+
 /// The same as `run`, with at most so many turns in rounds.
 pub fn run_within<S: Source, K: Sink>(
     alloc: Global,
@@ -102,25 +139,27 @@ pub fn run_within<S: Source, K: Sink>(
 ) -> Status
     requires unfailed { K.failed out.old ≡ false }
     ensures prints { IfSome (S.left src.old)
-        (λ input. Prints (command_of (map string_bytes words.now)) limit (take 16777217 input) (K.written out.old) (K.written out.new) result) }
+        (λ input. Prints (map string_bytes words.now) limit (take 16777217 input) (K.written out.old) (K.written out.new) result) }
     ensures read { ReadCause (S.faults src.old) (S.faults src.new) result }
     ensures write { WriteCause (K.faults out.old) (K.faults out.new) result }
     ensures failed { K.failed out.new ≡ status_is_write_fault result }
 {
-    let Some(command) = asked(words) else {
-        return usage(USAGE, out);
-    };
-    match read_trace(alloc, src) {
-        Err(NoMemory) => Status::NoMemory,
-        Ok(Read::ReadFault) => Status::ReadFault,
-        Ok(Read::Refused { line, reason }) => refuse(alloc, line, reason, out),
-        Ok(Read::Trace(trace)) => run_trace(alloc, command, &trace, limit, out),
+    match read_words(words) {
+        Err(fault) => refuse_words(alloc, words, fault, out),
+        Ok(asked) => {
+            if asked.help {
+                help(out)
+            } else {
+                run_command(alloc, command_of(&asked), limit, src, out)
+            }
+        }
     }
 }
 
-/// The whole program: runs the trace that `src` has left, and writes to `out` each step.
-/// The words are the program's name first, and then `weave` or nothing, or `replay`; any
-/// other words are answered by the usage line. No write to `out` may have failed before.
+/// The whole program: runs the trace that `src` has left, and writes to `out` the steps
+/// that the words ask for. The first word is the program's name. Words that ask for
+/// nothing that there is are answered by what is wrong with them and the usage, and
+/// `--help` by the usage; then no trace is run. No write to `out` may have failed before.
 ///
 /// The status says how it went, and each has its cause: `ReadFault` comes only where
 /// the count of faults of `src` rose, or stood at 2^64 - 1, and `WriteFault` exactly
@@ -128,7 +167,7 @@ pub fn run_within<S: Source, K: Sink>(
 pub fn run<S: Source, K: Sink>(alloc: Global, words: &[String], src: &mut S, out: &mut K) -> Status
     requires unfailed { K.failed out.old ≡ false }
     ensures prints { IfSome (S.left src.old)
-        (λ input. Prints (command_of (map string_bytes words.now)) rounds_limit (take 16777217 input) (K.written out.old) (K.written out.new) result) }
+        (λ input. Prints (map string_bytes words.now) rounds_limit (take 16777217 input) (K.written out.old) (K.written out.new) result) }
     ensures read { ReadCause (S.faults src.old) (S.faults src.new) result }
     ensures write { WriteCause (K.faults out.old) (K.faults out.new) result }
     ensures failed { K.failed out.new ≡ status_is_write_fault result }

@@ -1,11 +1,12 @@
-use Rattle.std.proofs.Common.{◌≡◌, Some, arith, map, string_bytes}
+use Rattle.std.proofs.Common.{◌≡◌, Ok, arith, map, string_bytes}
 use Rattle.std.proofs.lemmas.Grind.{common_steps}
-use Rattle.step_printing.specs.Run.{command_of}
-use Rattle.step_printing.proofs.Runs.{trace_prints}
+use Rattle.show_options.specs.Asked.{asked_by}
+use Rattle.step_printing.proofs.Runs.{run_prints}
 use Rattle.step_printing.proofs.program.run_within.Goals as goal
 
-pub returns-in-Ok-Trace-clause-prints : goal.returns-in-Ok-Trace-clause-prints
-returns-in-Ok-Trace-clause-prints g c =
-    let asked : command_of (map string_bytes c.args.words.now) ≡ Some c.in-Some.command = grind (arith, common_steps) in
-    trace_prints _ c.in-Some.command c.args.limit c.in-Ok-Trace.trace (g.K.Sink.written c.args.out.now) (g.K.Sink.written c.run_trace.new.out) asked
-    (g.S.Source.left c.args.src.now) c.run_trace.result (rw c.in-Ok-Trace.field-0-is at c.in-Ok-Trace.ensures.told) c.run_trace.ensures.written
+pub returns-else-asked-clause-prints : goal.returns-else-asked-clause-prints
+returns-else-asked-clause-prints g c =
+    let asked : asked_by (map string_bytes c.args.words.now) ≡ Ok c.in-Ok.asked = grind (arith, common_steps) in
+    run_prints (map string_bytes c.args.words.now) c.args.limit (g.K.Sink.written c.args.out.now) (g.K.Sink.written c.run_command.new.out)
+    c.run_command.result (g.S.Source.left c.args.src.now) c.in-Ok.asked asked c.if-asked.false
+    (rw c.command_of.ensures at c.run_command.ensures.prints)
