@@ -198,10 +198,7 @@ fn stay_kind(place: AccessPlace, hand: &Hand, line: &Line) -> Kind
         AccessPlace::Leave(Leaving::Faults { .. }) => {
             kind_made(&own_task(PartStep::Leave, own, 0), hand)
         }
-        AccessPlace::Fault(place) => {
-            let kind = fault_kind(place, hand, line);
-            kind
-        }
+        AccessPlace::Fault(place) => fault_kind(place, hand, line),
     }
 }
 
@@ -219,14 +216,8 @@ pub fn next_kind(hand: &Hand) -> Kind
         (Place::Between, Command::Access { .. }) => {
             stay_kind(AccessPlace::Enter { again: false }, hand, line)
         }
-        (Place::Host(place), _) => {
-            let kind = host_kind(place, hand, line);
-            kind
-        }
-        _ => {
-            let kind = kind_of_form(hand, line);
-            kind
-        }
+        (Place::Host(place), _) => host_kind(place, hand, line),
+        _ => kind_of_form(hand, line),
     }
 }
 
