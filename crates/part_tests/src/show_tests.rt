@@ -142,6 +142,8 @@ pub fn makes_no_turn(alloc: Global) -> bool {
 
 /// Whether a call may have no words.
 pub fn has_no_words(alloc: Global) -> bool {
-    let wanted = "2\nno text: \nusage: show_steps [steps] [weave | replay] [--help]\n";
+    let wanted =
+        "2\nno text: \nusage: show_steps [steps] [weave | replay] [--from AT] [--to AT] [--actor ACTOR] [--kind KIND] \
+        [--word WORD] [--changes] [--help]\nAT is go, the number of a turn, or line and its number\n";
     is_told(alloc, &Vec::new(alloc), 0, A_SLOT, wanted)
 }

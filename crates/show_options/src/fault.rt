@@ -12,6 +12,16 @@ pub enum Wrong {
     Unknown,
     /// A form, or a run, stands before it.
     Second,
+    /// An option whose value is missing.
+    NoValue,
+    /// It is no place in the order of turns.
+    NoBound,
+    /// It names no actor.
+    NoActor,
+    /// It names no kind of step.
+    NoKind,
+    /// It names no word of the machine.
+    NoWord,
 }
 
 /// What is wrong, and with which word of the call.
@@ -30,11 +40,19 @@ impl Wrong {
             Wrong::NoText => "no text",
             Wrong::Unknown => "no form, run or option",
             Wrong::Second => "named before",
+            Wrong::NoValue => "no value",
+            Wrong::NoBound => "no turn",
+            Wrong::NoActor => "no actor",
+            Wrong::NoKind => "no kind of step",
+            Wrong::NoWord => "no word of the machine",
         }
     }
 }
 
-const USAGE: &str = "usage: show_steps [steps] [weave | replay] [--help]\n";
+const USAGE: &str = "\
+usage: show_steps [steps] [weave | replay] [--from AT] [--to AT] [--actor ACTOR] [--kind KIND] [--word WORD] [--changes] [--help]
+AT is go, the number of a turn, or line and its number
+";
 
 /// The usage.
 #[tactic(auto, unfolding(crate::specs::Faults::usage_text))]

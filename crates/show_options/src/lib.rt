@@ -3,8 +3,9 @@
 
 mod asked;
 mod fault;
+mod names;
 mod reading;
 
-pub use asked::{Asked, Command, Form};
+pub use asked::{Asked, Bound, Command, Form};
 pub use fault::{Fault, Wrong, push_fault, usage_text, word_at};
 pub use reading::read_words;

@@ -1,8 +1,7 @@
--- Stores that go on are one line, and others are lines of their own.
-use Rattle.std.proofs.Common.{◌≡◌, ◌⊎◌, inl, inr, ◌+◌, ◌/◌, ℕ, List, [], ◌∷◌, ◌++◌, append_assoc, refl, sym, ap, subst, ◌∙◌, arith}
+-- What goes on with stores goes on with the last of them, and what is again a step is one like the last.
+use Rattle.std.proofs.Common.{◌≡◌, ◌+◌, ◌/◌, ℕ, refl, sym, ap, ◌∙◌, arith}
 use Rattle.std.proofs.lemmas.Bool.Decides.{nat_tests}
-use Rattle.std.proofs.lemmas.List.{append-nil}
-use Rattle.std.specs.Prelude.{Bool, true, false, ◌&&◌, ◌==◌, if◌then◌else◌, Option, Some, None}
+use Rattle.std.specs.Prelude.{Bool, true, false, ◌&&◌, ◌==◌, if◌then◌else◌}
 use Rattle.core_views.specs.declared.sizes.Sizes.{Sizes}
 use Rattle.core_views.specs.declared.actor.Actor.{Actor}
 use Rattle.core_views.specs.declared.actor.Actor.TheVariants.{Vcpu, Host, Manager, Worker}
@@ -13,7 +12,7 @@ use Rattle.spte_words.specs.Areas.{number_of}
 use Rattle.spte_words.specs.declared.area.Area.{Area}
 use Rattle.spte_words.specs.declared.area.Area.TheVariants as area
 use Rattle.step_text.specs.declared.row.Row.{Row}
-use Rattle.step_printing.specs.Lines.{Entry, Turns, Text, PutsEntry, after_fills, fills_text, goes_on, is_next_word, joined, lines_text, page_words, with_more}
+use Rattle.step_printing.specs.Lines.{goes_on, is_again, is_next_word, page_words, with_more}
 
 pub both : (a b : Bool) → (a && b) ≡ true → (a ≡ true) × (b ≡ true)
 both true true e = (refl, refl)
@@ -115,56 +114,17 @@ module _ (z : Sizes) where
       ∙ ap (λ (x : ℕ). (b.code == code_of Fill) && ((c.code == code_of Fill) && (is_same b.actor c.actor && (is_next_word z b c
       && ((b.found == c.found) && (x == c.left)))))) left
 
-  with_sum : (a : Row) (m n : ℕ) → Turns (with_more a (m + n)) [] ≡ Turns (with_more (with_more a m) n) []
-  with_sum a m n =
-      let sum : a.count + (m + n) ≡ (a.count + m) + n = omega arith in ap (λ (k : ℕ). Turns (record a { count = k }) []) sum
-
-  -- A store that goes on with others is in their line.
-  pub fold_joins : (a b : Row) → goes_on z a b ≡ true → (rest : List Entry)
-      → joined z (Turns (with_more a b.count) []) rest ≡ joined z (Turns a []) (joined z (Turns b []) rest)
-  fold_joins a b e [] = rw e refl
-  fold_joins a b e (Text text ∷ rest) = rw e refl
-  fold_joins a b e (Turns c (x ∷ xs) ∷ rest) = rw e refl
-  fold_joins a b e (Turns c [] ∷ rest) = by (goes_on z b c) refl
-    where
-      by : (t : Bool) → goes_on z b c ≡ t
-          → joined z (Turns (with_more a b.count) []) (Turns c [] ∷ rest) ≡ joined z (Turns a []) (joined z (Turns b []) (Turns c [] ∷ rest))
-      by true t =
-          let more = goes_more a b c e ∙ t in
-          rw (more, t, e) (ap (λ (x : Entry). x ∷ rest) (sym (with_sum a b.count c.count)))
-      by false t = let more = goes_more a b c e ∙ t in rw (more, t, e) refl
-
-  -- What doesn't go on with stores comes after their line.
-  pub apart : (a b : Row) → goes_on z a b ≡ false → (rest : List Entry)
-      → joined z (Turns a []) (joined z (Turns b []) rest) ≡ Turns a [] ∷ joined z (Turns b []) rest
-  apart a b e [] = rw e refl
-  apart a b e (Text text ∷ rest) = rw e refl
-  apart a b e (Turns c (x ∷ xs) ∷ rest) = rw e refl
-  apart a b e (Turns c [] ∷ rest) = by (goes_on z b c) refl
-    where
-      by : (t : Bool) → goes_on z b c ≡ t
-          → joined z (Turns a []) (joined z (Turns b []) (Turns c [] ∷ rest)) ≡ Turns a [] ∷ joined z (Turns b []) (Turns c [] ∷ rest)
-      by true t = rw (t, e) refl
-      by false t = rw (t, e) refl
-
-  -- A turn with which its line goes on is put after the stores that it doesn't go on with.
-  pub put_after : (fills : Option Row) (before middle text : List ℕ) (row : Row) (after : Option Row)
-      → (fills ≡ None) ⊎ ((a : Row) × (fills ≡ Some a) × (goes_on z a row ≡ false)) → middle ≡ before ++ fills_text z fills
-      → PutsEntry z None middle (Turns row []) after text → PutsEntry z fills before (Turns row []) after text
-  put_after fills before middle text row after (inl none) are puts =
-      rw none (λ rest. puts rest ∙ ap (λ (x : List ℕ). x ++ lines_text z (joined z (Turns row []) rest))
-      (are ∙ ap (λ (o : Option Row). before ++ fills_text z o) none ∙ append-nil before))
-  put_after fills before middle text row after (inr (a, is, not_)) are puts =
-      subst (λ (o : Option Row). PutsEntry z o before (Turns row []) after text) (sym is)
-      (λ rest. puts rest
-      ∙ ap (λ (x : List ℕ). x ++ lines_text z (joined z (Turns row []) rest)) (are ∙ ap (λ (o : Option Row). before ++ fills_text z o) is)
-      ∙ append_assoc before (fills_text z (Some a)) (lines_text z (joined z (Turns row []) rest))
-      ∙ ap (λ (es : List Entry). before ++ lines_text z es) (sym (apart a row not_ rest)))
-
-  -- A store that goes on with others is put into their line.
-  pub put_fold : (fills : Option Row) (a row : Row) (count : ℕ) (before : List ℕ) → fills ≡ Some a → count ≡ a.count + row.count → goes_on z a row ≡ true
-      → PutsEntry z fills before (Turns row []) (Some (record a { count = count })) before
-  put_fold fills a row count before is sum e rest =
-      ap (λ (n : ℕ). before ++ lines_text z (joined z (Turns (record a { count = n }) []) rest)) sum
-      ∙ ap (λ (es : List Entry). before ++ lines_text z es) (fold_joins a row e rest)
-      ∙ ap (λ (o : Option Row). before ++ lines_text z (after_fills z o (joined z (Turns row []) rest))) (sym is)
+-- A step that is like one like this is like this one.
+pub again_more : (a b c : Row) → is_again a b ≡ true → is_again a c ≡ is_again b c
+again_more a b c e =
+    let one = both (is_same a.actor b.actor) _ e in
+    let two = both (a.code == b.code) _ one.1 in
+    let three = both (number_of a.place.area == number_of b.place.area) _ two.1 in
+    let actor = same_actor a.actor b.actor c.actor one.0 in
+    let code = equal a.code b.code two.0 in
+    let at = equal (number_of a.place.area) (number_of b.place.area) three.0 in
+    let index = equal a.place.index b.place.index three.1 in
+    ap (λ (x : Bool). x && ((a.code == c.code) && ((number_of a.place.area == number_of c.place.area) && (a.place.index == c.place.index)))) actor
+    ∙ ap (λ (x : ℕ). is_same b.actor c.actor && ((x == c.code) && ((number_of a.place.area == number_of c.place.area) && (a.place.index == c.place.index)))) code
+    ∙ ap (λ (x : ℕ). is_same b.actor c.actor && ((b.code == c.code) && ((x == number_of c.place.area) && (a.place.index == c.place.index)))) at
+    ∙ ap (λ (x : ℕ). is_same b.actor c.actor && ((b.code == c.code) && ((number_of b.place.area == number_of c.place.area) && (x == c.place.index)))) index

@@ -1,7 +1,11 @@
+pub mod WordNames
 pub mod Places
 pub mod Rows
 pub mod Fills
+pub mod Sharing
+pub mod Putting
 pub mod LineRows
+pub mod ShownRows
 pub mod TurnsTold
 pub mod Runs
 pub mod StepsWritten

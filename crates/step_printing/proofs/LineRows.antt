@@ -1,7 +1,8 @@
 -- The lines of a run tell its turns one for one.
 use Rattle.std.proofs.Common.{◌≡◌, ◌+◌, ℕ, zero, suc, List, [], ◌∷◌, ◌++◌, refl, sym, ap, subst, ◌∙◌, arith}
-use Rattle.std.specs.Prelude.{Bool, true, false, ◌==◌, if◌then◌else◌}
+use Rattle.std.specs.Prelude.{Bool, true, false, ◌==◌, ◌||◌, if◌then◌else◌}
 use Rattle.core_views.specs.declared.actor.Actor.{Actor}
+use Rattle.core_views.specs.declared.answer.Answer.{Answer}
 use Rattle.core_views.specs.declared.kind.StepKind.TheVariants.{Fill}
 use Rattle.core_views.specs.declared.kind.Kind.{Kind}
 use Rattle.core_views.specs.declared.sizes.Sizes.{Sizes}
@@ -14,11 +15,20 @@ use Rattle.part_steps.specs.Tasks.{map_of}
 use Rattle.spte_words.specs.declared.area.Area.{Area}
 use Rattle.spte_words.specs.declared.area.Area.TheVariants as area
 use Rattle.spte_words.specs.Areas.{number_of}
+use Rattle.step_seats.specs.declared.turn.Turn.{Turn}
+use Rattle.step_seats.specs.declared.turn.Turn.TheVariants.{More, Wait, Retry, Done}
+use Rattle.step_text.specs.declared.fold.Fold.{Fold}
 use Rattle.step_text.specs.declared.row.Row.{Row}
+use Rattle.step_text.specs.Rows.{item_text, rounds_text}
 use Rattle.turn_loops.specs.Marks.{Mark, Made, Begins, Rounds, Over}
-use Rattle.step_printing.specs.Laws.{each_turn, next_of, rows_made, rows_told}
-use Rattle.step_printing.specs.Lines.{Entry, Turns, Text, entries, goes_on, is_next_word, joined, with_more}
-use Rattle.step_printing.specs.Rows.{ended_text, place_in, role_shown, row_of, turn_in}
+use Rattle.step_printing.specs.Laws.{LinesTellTurns, each_turn, next_of, rows_made, rows_told, whole_view}
+use Rattle.step_printing.specs.Lines.{Entry, Shared, Ended, Text, both_of, entries, fold_by, goes_on, is_next_word, joined, made_of, placed, shares}
+use Rattle.step_printing.specs.Lines.{turn_entry, with_more}
+use Rattle.step_printing.specs.Rows.{place_in, role_shown, row_of, turn_in}
+use Rattle.step_printing.specs.Views.{after_go, after_turn, shows, shows_item, shows_rounds}
+use Rattle.step_printing.specs.declared.view.MadeTurn.{MadeTurn}
+use Rattle.step_printing.specs.declared.view.Reach.{Reach}
+use Rattle.step_printing.specs.declared.view.View.{View}
 use Rattle.step_printing.proofs.Fills.{both, equal}
 
 abbrev area_by : ℕ → Area
@@ -76,35 +86,73 @@ each_as_one zero row = refl
 each_as_one (suc n) row =
     ap (λ (rows : List Row). record row { count = 1 } ∷ rows) (each_as_one n (next_of row) ∙ sym (each_as_one n (next_of (record row { count = 1 }))))
 
--- The first line is of turns from this number on, and tells no role of stores.
+-- The first line is of turns from this number on, and tells no role of stores, unless no other turn shares it.
 abbrev Heads : ℕ → List Entry → Type 0
 Heads number [] = Unit {0}
-Heads number (Turns row ended ∷ rest) = (row.first ≡ number) × (row.code ≡ code_of Fill → row.role ≡ 0)
+Heads number (Shared fold ∷ rest) = (fold.row.first ≡ number) × (fold.row.code ≡ code_of Fill → fold.row.role ≡ 0)
+Heads number (Ended row ended ∷ rest) = Unit {0}
 Heads number (Text text ∷ rest) = Unit {0}
 
+abbrev v : View
+v = whole_view
+
+abbrev at_number : ℕ → Bool → Reach
+at_number number begun = record { number = number; begun = begun; over = false }
+
+-- All turns are shown.
+all_shown : (number : ℕ) (begun : Bool) (m : MadeTurn) → shows v (at_number number begun) m ≡ true
+all_shown number true m = refl
+all_shown number false m = refl
+
+-- What shares a line are stores that go on.
+stores : (z : Sizes) (x y : Bool) (a b : Row) (la lb : ℕ)
+    → shares v z (record { row = a; last = la; waits = x }) (record { row = b; last = lb; waits = y }) ≡ true → goes_on z a b ≡ true
+stores z false false a b la lb e = e
+stores z false true a b la lb e = absurd (cc e)
+stores z true false a b la lb e = absurd (cc e)
+stores z true true a b la lb e = absurd (cc e)
+
 module _ (z : Sizes) where
-  joined_heads : (number : ℕ) (row : Row) (ended : List ℕ) (rest : List Entry) → row.first ≡ number → (row.code ≡ code_of Fill → row.role ≡ 0)
-      → Heads number (joined z (Turns row ended) rest)
-  joined_heads number row (x ∷ xs) rest is none = (is, none)
-  joined_heads number row [] [] is none = (is, none)
-  joined_heads number row [] (Text text ∷ rest) is none = (is, none)
-  joined_heads number row [] (Turns b (x ∷ xs) ∷ rest) is none = (is, none)
-  joined_heads number row [] (Turns b [] ∷ rest) is none = by (goes_on z row b)
+  shared_heads : (number : ℕ) (fold : Fold) (rest : List Entry) → fold.row.first ≡ number → (fold.row.code ≡ code_of Fill → fold.row.role ≡ 0)
+      → Heads number (joined v z (Shared fold) rest)
+  shared_heads number fold [] is none = (is, none)
+  shared_heads number fold (Text text ∷ rest) is none = (is, none)
+  shared_heads number fold (Ended row ended ∷ rest) is none = (is, none)
+  shared_heads number fold (Shared b ∷ rest) is none = by (shares v z fold b)
     where
-      by : (t : Bool) → Heads number (if t then Turns (with_more row b.count) [] ∷ rest else Turns row [] ∷ (Turns b [] ∷ rest))
+      by : (t : Bool) → Heads number (if t then Shared (both_of fold b) ∷ rest else Shared fold ∷ (Shared b ∷ rest))
       by true = (is, none)
       by false = (is, none)
+
+  turn_heads : (number : ℕ) (row : Row) (told : Turn Answer) (rest : List Entry) → row.first ≡ number → (row.code ≡ code_of Fill → row.role ≡ 0)
+      → Heads number (joined v z (turn_entry z row told) rest)
+  turn_heads number row More rest is none = shared_heads number (fold_by row false) rest is none
+  turn_heads number row (Wait seen) rest is none = shared_heads number (fold_by row true) rest is none
+  turn_heads number row (Retry cause) rest is none = tt
+  turn_heads number row (Done answer) rest is none = tt
 
   no_role : (number : ℕ) (w : World Held) (s : Step Kind) → s.kind.code ≡ code_of Fill → (row_of z number w s).role ≡ 0
   no_role number w s e = subst (λ (c : ℕ). role_shown z w c (place_in (map_of z) s.kind.word) ≡ 0) (sym e) refl
 
-  heads : (number : ℕ) (marks : List Mark) → Heads number (entries z number marks)
-  heads number [] = tt
-  heads number (Made w s ∷ more) =
-      joined_heads number (row_of z number w s) (ended_text z (turn_in w s)) (entries z (number + 1) more) refl (no_role number w s)
-  heads number (Begins item ∷ more) = tt
-  heads number (Rounds ∷ more) = tt
-  heads number (Over open_ ∷ more) = tt
+  text_heads : (number : ℕ) (t : Bool) (text : List ℕ) (rest : List Entry) → Heads number rest → Heads number (placed v z t (Text text) rest)
+  text_heads number true text rest h = tt
+  text_heads number false text rest h = h
+
+  heads : (number : ℕ) (begun : Bool) (marks : List Mark) → Heads number (entries v z (at_number number begun) marks)
+  heads number begun [] = tt
+  heads number begun (Made w s ∷ more) =
+      let r = at_number number begun in
+      let m = made_of z number w s in
+      let rest = entries v z (after_turn v r m) more in
+      subst (λ (t : Bool). Heads number (placed v z t (turn_entry z (row_of z number w s) (turn_in w s)) rest)) (sym (all_shown number begun m))
+      (turn_heads number (row_of z number w s) (turn_in w s) rest refl (no_role number w s))
+  heads number begun (Begins item ∷ more) =
+      let r = at_number number begun in
+      text_heads number (shows_item v r item) (item_text item) (entries v z (after_go v r) more) (heads number (begun || true) more)
+  heads number begun (Rounds ∷ more) =
+      let r = at_number number begun in
+      text_heads number (shows_rounds v r) rounds_text (entries v z (after_go v r) more) (heads number (begun || true) more)
+  heads number begun (Over open_ ∷ more) = tt
 
   -- What goes on with a store is the turn after it.
   is_next : (a b : Row) → a.count ≡ 1 → goes_on z a b ≡ true → b.first ≡ a.first + 1 → (a.code ≡ code_of Fill → a.role ≡ 0)
@@ -133,30 +181,53 @@ module _ (z : Sizes) where
       ∙ ap (λ (x : ℕ). row_by b.first b.actor b.code b.place.area b.place.index b.role b.found x) (equal a.left b.left five.1)
 
   -- One turn before these lines is told before what they tell.
-  joined_tells : (a : Row) (ended : List ℕ) (rest : List Entry) → a.count ≡ 1 → Heads (a.first + 1) rest → (a.code ≡ code_of Fill → a.role ≡ 0)
-      → rows_told (joined z (Turns a ended) rest) ≡ each_turn 1 a ++ rows_told rest
-  joined_tells a (x ∷ xs) rest once head none = ap (λ (n : ℕ). each_turn n a ++ rows_told rest) once
-  joined_tells a [] [] once head none = ap (λ (n : ℕ). each_turn n a ++ []) once
-  joined_tells a [] (Text text ∷ rest) once head none = ap (λ (n : ℕ). each_turn n a ++ rows_told rest) once
-  joined_tells a [] (Turns b (x ∷ xs) ∷ rest) once head none = ap (λ (n : ℕ). each_turn n a ++ (each_turn b.count b ++ rows_told rest)) once
-  joined_tells a [] (Turns b [] ∷ rest) once head none = by (goes_on z a b) refl
+  shared_tells : (a : Row) (waits : Bool) (rest : List Entry) → a.count ≡ 1 → Heads (a.first + 1) rest → (a.code ≡ code_of Fill → a.role ≡ 0)
+      → rows_told (joined v z (Shared (fold_by a waits)) rest) ≡ each_turn 1 a ++ rows_told rest
+  shared_tells a waits [] once head none = ap (λ (n : ℕ). each_turn n a ++ []) once
+  shared_tells a waits (Text text ∷ rest) once head none = ap (λ (n : ℕ). each_turn n a ++ rows_told rest) once
+  shared_tells a waits (Ended b ended ∷ rest) once head none = ap (λ (n : ℕ). each_turn n a ++ (each_turn b.count b ++ rows_told rest)) once
+  shared_tells a waits (Shared f ∷ rest) once head none = by (shares v z (fold_by a waits) f) refl
     where
-      by : (t : Bool) → goes_on z a b ≡ t
-          → rows_told (if t then Turns (with_more a b.count) [] ∷ rest else Turns a [] ∷ (Turns b [] ∷ rest))
-          ≡ each_turn 1 a ++ (each_turn b.count b ++ rows_told rest)
-      by false t = ap (λ (n : ℕ). each_turn n a ++ (each_turn b.count b ++ rows_told rest)) once
+      by : (t : Bool) → shares v z (fold_by a waits) f ≡ t
+          → rows_told (if t then Shared (both_of (fold_by a waits) f) ∷ rest else Shared (fold_by a waits) ∷ (Shared f ∷ rest))
+          ≡ each_turn 1 a ++ (each_turn f.row.count f.row ++ rows_told rest)
+      by false t = ap (λ (n : ℕ). each_turn n a ++ (each_turn f.row.count f.row ++ rows_told rest)) once
       by true t =
+          let b = f.row in
+          let goes = stores z waits f.waits a b a.first f.last t in
           let sum : a.count + b.count ≡ suc b.count = omega (arith, once) in
-          let same = each_as_one b.count (next_of (with_more a b.count)) ∙ ap (each_turn b.count) (is_next a b once t head.0 none head.1)
+          let same = each_as_one b.count (next_of (with_more a b.count)) ∙ ap (each_turn b.count) (is_next a b once goes head.0 none head.1)
           ∙ sym (each_as_one b.count b) in
           ap (λ (n : ℕ). each_turn n (with_more a b.count) ++ rows_told rest) sum
           ∙ ap (λ (rows : List Row). (record a { count = 1 } ∷ rows) ++ rows_told rest) same
 
-  pub lines_tell : (number : ℕ) (marks : List Mark) → rows_told (entries z number marks) ≡ rows_made z number marks
-  lines_tell number [] = refl
-  lines_tell number (Made w s ∷ more) =
-      joined_tells (row_of z number w s) (ended_text z (turn_in w s)) (entries z (number + 1) more) refl (heads (number + 1) more) (no_role number w s)
-      ∙ ap (λ (rows : List Row). row_of z number w s ∷ rows) (lines_tell (number + 1) more)
-  lines_tell number (Begins item ∷ more) = lines_tell number more
-  lines_tell number (Rounds ∷ more) = lines_tell number more
-  lines_tell number (Over open_ ∷ more) = lines_tell number more
+  turn_tells : (a : Row) (told : Turn Answer) (rest : List Entry) → a.count ≡ 1 → Heads (a.first + 1) rest → (a.code ≡ code_of Fill → a.role ≡ 0)
+      → rows_told (joined v z (turn_entry z a told) rest) ≡ each_turn 1 a ++ rows_told rest
+  turn_tells a More rest once head none = shared_tells a false rest once head none
+  turn_tells a (Wait seen) rest once head none = shared_tells a true rest once head none
+  turn_tells a (Retry cause) rest once head none = ap (λ (n : ℕ). each_turn n a ++ rows_told rest) once
+  turn_tells a (Done answer) rest once head none = ap (λ (n : ℕ). each_turn n a ++ rows_told rest) once
+
+  text_tells : (t : Bool) (text : List ℕ) (rest : List Entry) → rows_told (placed v z t (Text text) rest) ≡ rows_told rest
+  text_tells true text rest = refl
+  text_tells false text rest = refl
+
+  tell : (number : ℕ) (begun : Bool) (marks : List Mark) → rows_told (entries v z (at_number number begun) marks) ≡ rows_made z number marks
+  tell number begun [] = refl
+  tell number begun (Made w s ∷ more) =
+      let r = at_number number begun in
+      let m = made_of z number w s in
+      let rest = entries v z (after_turn v r m) more in
+      ap (λ (t : Bool). rows_told (placed v z t (turn_entry z (row_of z number w s) (turn_in w s)) rest)) (all_shown number begun m)
+      ∙ turn_tells (row_of z number w s) (turn_in w s) rest refl (heads (number + 1) (begun || true) more) (no_role number w s)
+      ∙ ap (λ (rows : List Row). row_of z number w s ∷ rows) (tell (number + 1) (begun || true) more)
+  tell number begun (Begins item ∷ more) =
+      let r = at_number number begun in
+      text_tells (shows_item v r item) (item_text item) (entries v z (after_go v r) more) ∙ tell number (begun || true) more
+  tell number begun (Rounds ∷ more) =
+      let r = at_number number begun in
+      text_tells (shows_rounds v r) rounds_text (entries v z (after_go v r) more) ∙ tell number (begun || true) more
+  tell number begun (Over open_ ∷ more) = tell number begun more
+
+pub lines_tell : LinesTellTurns
+lines_tell z number begun marks = tell z number begun marks

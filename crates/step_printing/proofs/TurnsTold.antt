@@ -1,5 +1,5 @@
 -- A turn that was made, and what is put of it.
-use Rattle.std.proofs.Common.{◌≡◌, ◌+◌, ℕ, List, [], ◌∷◌, ◌++◌, Ok, Err, append_assoc, refl, sym, ap, subst, ◌∙◌}
+use Rattle.std.proofs.Common.{◌≡◌, ℕ, List, [], ◌∷◌, ◌++◌, Ok, Err, append_assoc, refl, sym, ap, subst, ◌∙◌}
 use Rattle.std.proofs.lemmas.List.{append-nil}
 use Rattle.std.specs.Prelude.{true, false, Some, None}
 use Rattle.std.specs.declared.option.Option.{Option}
@@ -24,10 +24,16 @@ use Rattle.turn_loops.specs.Given.{given_in, told_in}
 use Rattle.turn_loops.specs.Marks.{Mark, Made}
 use Rattle.turn_loops.specs.Turned.{IsTurnOf, MakesTurn, turn_text}
 use Rattle.weave_engine.specs.Writes.{Buffers}
-use Rattle.step_printing.specs.Lines.{Entry, Turns, Text, PutsEntry, after_fills, coming_text, entries, fills_text, joined, lines_text}
+use Rattle.step_printing.specs.Coming.{PutsTurn, after_kept, coming_text}
+use Rattle.step_printing.specs.Lines.{entries, lines_text, placed, turn_entry}
 use Rattle.step_printing.specs.PutLaws.{longer, none_written}
 use Rattle.step_printing.specs.Puts.{MayPrint, Printed, PutsSteps, StopsSteps}
-use Rattle.step_printing.specs.Rows.{ended_text, hand_turn, row_of, turn_in}
+use Rattle.step_printing.specs.Rows.{hand_turn, row_of, turn_in}
+use Rattle.step_printing.specs.Views.{after_turn, made_by, shows}
+use Rattle.step_printing.specs.declared.lines.Lines.{Lines}
+use Rattle.step_printing.specs.declared.view.MadeTurn.{MadeTurn}
+use Rattle.step_printing.specs.declared.view.Reach.{Reach}
+use Rattle.step_printing.specs.declared.view.View.{View}
 use Rattle.step_printing.specs.Tells.{TellsAll, is_going}
 
 -- How a turn ended is how its hand's turn does.
@@ -61,6 +67,10 @@ module _ (number : ℕ) (whose : Actor) (actor : ℕ) (w t : World Held) where
       is s.kind (subst (λ (a : ℕ). Enabled (hand_in mmu w a) s.kind) own T.makes.comes.legal.0.enabled)
       ∙ ap (λ (a : ℕ). row_of z next w (step_by a s.kind)) (sym own)
 
+  -- The line is that of the hand that makes the step.
+  pub line_of_turn : (turn : Turn Answer) (T : IsTurnOf number whose turn actor w t) → number ≡ (line_of (hand_in mmu w T.makes.step.actor)).number
+  line_of_turn turn T = T.number_is ∙ ap (λ (a : ℕ). (line_of (hand_in mmu w a)).number) (sym T.makes.turn.own)
+
   -- The turn, by what became of it.
   pub goes_made : (turn : Turn (Unit {0})) → is_going turn ≡ true → (T : IsTurnOf number whose (told_in turn actor w t) actor w t)
       → (M : MakesTurn actor w t false []) × (M.step ≡ T.makes.step)
@@ -76,24 +86,26 @@ module _ (number : ℕ) (whose : Actor) (actor : ℕ) (w t : World Held) where
   stops_made (Retry cause) stop T = ([], T.makes, refl)
   stops_made (Done u) stop T = (turn_text number whose (told_in (Done u) actor w t), T.makes, refl)
 
+-- What a turn says tells how it ended.
+pub made_same : (row : Row) (line : ℕ) (turn : Turn (Unit {0})) (told : Turn Answer) (h : Held) → TellsAll turn told h
+    → made_by row line turn ≡ made_by row line told
+made_same row line More told h tells = rw tells refl
+made_same row line (Wait seen) told h tells = rw tells refl
+made_same row line (Retry cause) told h tells = rw tells refl
+made_same row line (Done u) told h (answer, given, before, is, rest) = rw is refl
+
 -- What a printer puts.
 module _ (p q : Printed) (text : List ℕ) where
-  abbrev z : Sizes
-  z = p.sizes
-
   -- A text was put, and is written or waits.
-  module _ (mark : Mark) (after : Option Row) (next : ℕ)
-      (puts : (more : List Mark) → text ++ coming_text z after next more ≡ p.waits ++ coming_text z p.fills p.next (mark ∷ more)) where
-    pub mark_put : q.sizes ≡ p.sizes → q.fills ≡ after → q.next ≡ next → ends_over (mark ∷ []) ≡ false → MayPrint q → q.faults ≡ p.faults
+  module _ (mark : Mark) (after : Lines) (puts : (more : List Mark) → text ++ coming_text after more ≡ p.waits ++ coming_text p.lines (mark ∷ more)) where
+    pub mark_put : q.lines ≡ after → ends_over (mark ∷ []) ≡ false → MayPrint q → q.faults ≡ p.faults
         → Buffers p.given q.given text q.waits (Ok tt) [] → PutsSteps p (mark ∷ []) q
-    mark_put sizes fills count not_over may faults (written, appends, is, few) = record {
+    mark_put lines not_over may faults (written, appends, is, few) = record {
       written = written;
       appends = appends;
-      whole = λ more. sym (append_assoc written q.waits (coming_text q.sizes q.fills q.next more))
-          ∙ ap (λ (x : List ℕ). x ++ coming_text q.sizes q.fills q.next more) (is ∙ append-nil text)
-          ∙ ap (λ (y : Sizes). text ++ coming_text y q.fills q.next more) sizes
-          ∙ ap (λ (o : Option Row). text ++ coming_text z o q.next more) fills
-          ∙ ap (λ (n : ℕ). text ++ coming_text z after n more) count
+      whole = λ more. sym (append_assoc written q.waits (coming_text q.lines more))
+          ∙ ap (λ (x : List ℕ). x ++ coming_text q.lines more) (is ∙ append-nil text)
+          ∙ ap (λ (l : Lines). text ++ coming_text l more) lines
           ∙ puts more;
       at_end = λ e. let f : false ≡ true = sym not_over ∙ e in absurd (cc f);
       may = may;
@@ -104,38 +116,42 @@ module _ (p q : Printed) (text : List ℕ) where
         → q.failed ≡ is_failed {A = Unit {0}} (Err stop) → StopsSteps p (mark ∷ []) stop q
     mark_stopped stop prefix faults failed = record {
       written = λ more. subst (AppendsPrefix p.given q.given) (puts more)
-          (longer p.given q.given text (coming_text z after next more) (subst (AppendsPrefix p.given q.given) (append-nil text) prefix));
+          (longer p.given q.given text (coming_text after more) (subst (AppendsPrefix p.given q.given) (append-nil text) prefix));
       faults = faults;
       failed = failed;
     }
 
+  -- The turn was put as it is told.
+  pub put_told : (row : Row) (line : ℕ) (turn : Turn (Unit {0})) (told : Turn Answer) (h : Held) (m : MadeTurn) (after : Lines)
+      → m ≡ made_by row line turn → TellsAll turn told h → PutsTurn p.lines p.waits m told after text
+      → PutsTurn p.lines p.waits (made_by row line told) told after text
+  put_told row line turn told h m after is tells puts =
+      subst (λ (x : MadeTurn). PutsTurn p.lines p.waits x told after text) (is ∙ made_same row line turn told h tells) puts
+
   -- The turn's line was put.
-  pub turn_puts : (w : World Held) (s : Step Kind) (row : Row) (told : Turn Answer) (after : Option Row) → row ≡ row_of z p.next w s → told ≡ turn_in w s
-      → PutsEntry z p.fills p.waits (Turns row (ended_text z told)) after text
-      → (more : List Mark) → text ++ coming_text z after (p.next + 1) more ≡ p.waits ++ coming_text z p.fills p.next (Made w s ∷ more)
-  turn_puts w s row told after row_is told_is puts more =
-      puts (entries z (p.next + 1) more)
-      ∙ ap (λ (r : Row). p.waits ++ lines_text z (after_fills z p.fills (joined z (Turns r (ended_text z told)) (entries z (p.next + 1) more)))) row_is
-      ∙ ap (λ (x : Turn Answer). p.waits ++ lines_text z (after_fills z p.fills (joined z (Turns (row_of z p.next w s) (ended_text z x))
-      (entries z (p.next + 1) more)))) told_is
-
--- A text after stores that may go on comes after their line.
-pub text_after : (z : Sizes) (fills : Option Row) (text : List ℕ) (rest : List Entry)
-    → lines_text z (after_fills z fills (Text text ∷ rest)) ≡ fills_text z fills ++ (text ++ lines_text z rest)
-text_after z None text rest = refl
-text_after z (Some row) text rest = refl
-
-pub text_puts : (z : Sizes) (fills : Option Row) (waits text put : List ℕ) (rest : List Entry) → text ≡ waits ++ (fills_text z fills ++ put)
-    → text ++ lines_text z rest ≡ waits ++ lines_text z (after_fills z fills (Text put ∷ rest))
-text_puts z fills waits text put rest are =
-    ap (λ (x : List ℕ). x ++ lines_text z rest) are ∙ append_assoc waits (fills_text z fills ++ put) (lines_text z rest)
-    ∙ ap (λ (x : List ℕ). waits ++ x) (append_assoc (fills_text z fills) put (lines_text z rest) ∙ sym (text_after z fills put rest))
+  pub turn_puts : (w : World Held) (s : Step Kind) (row : Row) (line : ℕ) (told : Turn Answer) (after : Lines)
+      → row ≡ row_of p.lines.sizes p.lines.reach.number w s → line ≡ (line_of (hand_in mmu w s.actor)).number → told ≡ turn_in w s
+      → PutsTurn p.lines p.waits (made_by row line told) told after text
+      → (more : List Mark) → text ++ coming_text after more ≡ p.waits ++ coming_text p.lines (Made w s ∷ more)
+  turn_puts w s row line told after row_is line_is told_is puts more =
+      let z = p.lines.sizes in
+      let v = p.lines.view in
+      let r = p.lines.reach in
+      let whole : Row → ℕ → Turn Answer → List ℕ = λ x n t. p.waits ++ lines_text z (after_kept v z p.lines.kept (placed v z (shows v r (made_by x n t))
+      (turn_entry z x t) (entries v z (after_turn v r (made_by x n t)) more))) in
+      ap (λ (y : Sizes). text ++ lines_text y (after_kept after.view y after.kept (entries after.view y after.reach more))) puts.sizes
+      ∙ ap (λ (y : View). text ++ lines_text z (after_kept y z after.kept (entries y z after.reach more))) puts.view
+      ∙ ap (λ (y : Reach). text ++ lines_text z (after_kept v z after.kept (entries v z y more))) puts.reach
+      ∙ puts.puts (entries v z (after_turn v r (made_by row line told)) more)
+      ∙ ap (λ (x : Row). whole x line told) row_is
+      ∙ ap (λ (n : ℕ). whole (row_of z r.number w s) n told) line_is
+      ∙ ap (λ (t : Turn Answer). whole (row_of z r.number w s) (line_of (hand_in mmu w s.actor)).number t) told_is
 
 -- Where memory was refused, nothing was written.
 pub nothing_written : (p q : Printed) (marks : List Mark) → q.given ≡ p.given → q.faults ≡ p.faults → q.failed ≡ false → StopsSteps p marks NoMemory q
 nothing_written p q marks given faults failed = record {
-  written = λ more. subst (λ (x : Option (List ℕ)). AppendsPrefix p.given x (p.waits ++ coming_text p.sizes p.fills p.next (marks ++ more))) (sym given)
-      (none_written p.given (p.waits ++ coming_text p.sizes p.fills p.next (marks ++ more)));
+  written = λ more. subst (λ (x : Option (List ℕ)). AppendsPrefix p.given x (p.waits ++ coming_text p.lines (marks ++ more))) (sym given)
+      (none_written p.given (p.waits ++ coming_text p.lines (marks ++ more)));
   faults = faults;
   failed = failed;
 }

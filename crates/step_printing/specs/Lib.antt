@@ -1,8 +1,11 @@
 pub mod Rows
+pub mod Views
 pub mod Lines
+pub mod Coming
 pub mod Laws
 pub mod Puts
 pub mod PutLaws
 pub mod Tells
+pub mod Naming
 pub mod Run
 pub mod Prints

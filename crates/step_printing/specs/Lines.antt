@@ -1,19 +1,32 @@
--- The lines of a run: one for each turn, but for stores into one page that follow one another, and one for each other mark.
-use Rattle.std.specs.Prelude.{◌≡◌, ◌+◌, ◌/◌, ℕ, Bool, List, [], ◌∷◌, ◌++◌, ◌==◌, ◌&&◌, max, if◌then◌else◌, Option, Some, None}
+-- The lines of a run: one for each turn that is shown, but for turns that share one, and one for each other mark that is.
+use Rattle.std.specs.Prelude.{◌≡◌, ◌+◌, ◌/◌, ℕ, Bool, true, false, List, [], ◌∷◌, ◌++◌, ◌==◌, ◌&&◌, not, max, if◌then◌else◌, Option, Some, None}
+use Rattle.core_views.specs.declared.answer.Answer.{Answer}
+use Rattle.core_views.specs.declared.kind.Kind.{Kind}
 use Rattle.core_views.specs.declared.kind.StepKind.TheVariants.{Fill}
 use Rattle.core_views.specs.declared.sizes.Sizes.{Sizes}
 use Rattle.core_views.specs.Actors.{is_same}
+use Rattle.core_views.specs.Held.{Held}
 use Rattle.core_views.specs.Kinds.{code_of}
+use Rattle.mmu_core.specs.machine.Enabled.{mmu}
+use Rattle.mmu_core.specs.machine.Machine.{Step, World, hand_in}
+use Rattle.mmu_core.specs.machine.Turns.{line_of}
 use Rattle.spte_words.specs.declared.area.Area.{Area}
 use Rattle.spte_words.specs.declared.area.Area.TheVariants.{Pool, Content}
 use Rattle.spte_words.specs.Areas.{number_of}
-use Rattle.step_text.specs.declared.ending.Ending.{Ending}
-use Rattle.step_text.specs.declared.ending.Ending.TheVariants.{GoesOn}
+use Rattle.step_seats.specs.declared.turn.Turn.{Turn}
+use Rattle.step_seats.specs.declared.turn.Turn.TheVariants.{More, Wait, Retry, Done}
+use Rattle.step_text.specs.declared.fold.Fold.{Fold}
 use Rattle.step_text.specs.declared.row.Row.{Row}
+use Rattle.step_text.specs.Endings.{answers_text}
+use Rattle.step_text.specs.Folds.{fold_text}
 use Rattle.step_text.specs.Rows.{item_text, row_text, rounds_text}
 use Rattle.turn_loops.specs.Marks.{Mark, Made, Begins, Rounds, Over}
 use Rattle.turn_loops.specs.Weaves.{open_text}
-use Rattle.step_printing.specs.Rows.{ended_text, row_of, turn_in}
+use Rattle.step_printing.specs.Rows.{cause_text, row_of, turn_in}
+use Rattle.step_printing.specs.Views.{after_go, after_turn, first_reach, made_by, shows, shows_item, shows_rounds}
+use Rattle.step_printing.specs.declared.view.MadeTurn.{MadeTurn}
+use Rattle.step_printing.specs.declared.view.Reach.{Reach}
+use Rattle.step_printing.specs.declared.view.View.{View}
 
 -- how many words a page of the area has: of the pool, of a frame; the words of other areas are in no page
 abbrev pub page_words : Sizes → Area → ℕ
@@ -33,30 +46,66 @@ abbrev pub goes_on : Sizes → Row → Row → Bool
 goes_on z a b =
     (a.code == code_of Fill) && ((b.code == code_of Fill) && (is_same a.actor b.actor && (is_next_word z a b && ((a.found == b.found) && (a.left == b.left)))))
 
+-- The two are steps of one actor and of one kind, on one word.
+abbrev pub is_again : Row → Row → Bool
+is_again a b =
+    is_same a.actor b.actor
+    && ((a.code == b.code) && ((number_of a.place.area == number_of b.place.area) && (a.place.index == b.place.index)))
+
+-- The second's turns are told in the line of the first's: stores that go on, or turns that wait again where these share a line.
+abbrev pub shares : View → Sizes → Fold → Fold → Bool
+shares v z a b = if a.waits then b.waits && (v.folds && is_again a.row b.row) else not b.waits && goes_on z a.row b.row
+
 -- a row with so many turns more
 abbrev pub with_more : Row → ℕ → Row
 with_more a count = record a { count = a.count + count }
 
--- what a line is of: turns, with what is told of how the last one ended; or this text
+-- the turns of both
+abbrev pub both_of : Fold → Fold → Fold
+both_of a b = record { row = with_more a.row b.row.count; last = b.last; waits = a.waits }
+
+-- what a line is of: turns that may share it; one that ends so; or this text
 pub data Entry : Type 0 where
-  Turns : (row : Row) (ended : List ℕ) → Entry
+  Shared : (fold : Fold) → Entry
+  Ended : (row : Row) (ended : List ℕ) → Entry
   Text : (text : List ℕ) → Entry
 
--- A turn with which its line goes on is one line with the next ones where these go on with its stores.
-abbrev pub joined : Sizes → Entry → List Entry → List Entry
-joined z (Turns a []) (Turns b [] ∷ rest) = if goes_on z a b then Turns (with_more a b.count) [] ∷ rest else Turns a [] ∷ (Turns b [] ∷ rest)
-joined z entry rest = entry ∷ rest
+abbrev pub fold_by : Row → Bool → Fold
+fold_by row waits = record { row = row; last = row.first; waits = waits }
 
--- the lines of these marks, of which the first turn has this number
-abbrev pub entries : Sizes → ℕ → List Mark → List Entry
-entries z number [] = []
-entries z number (Made w s ∷ more) = joined z (Turns (row_of z number w s) (ended_text z (turn_in w s))) (entries z (number + 1) more)
-entries z number (Begins item ∷ more) = Text (item_text item) ∷ entries z number more
-entries z number (Rounds ∷ more) = Text rounds_text ∷ entries z number more
-entries z number (Over open_ ∷ more) = Text (open_text open_) ∷ entries z number more
+-- the line of a turn that ended so
+abbrev pub turn_entry : Sizes → Row → Turn Answer → Entry
+turn_entry z row More = Shared (fold_by row false)
+turn_entry z row (Wait seen) = Shared (fold_by row true)
+turn_entry z row (Retry cause) = Ended row (cause_text z cause)
+turn_entry z row (Done answer) = Ended row (answers_text answer)
+
+-- A turn is in one line with the next ones that are shown where these share it.
+abbrev pub joined : View → Sizes → Entry → List Entry → List Entry
+joined v z (Shared a) (Shared b ∷ rest) = if shares v z a b then Shared (both_of a b) ∷ rest else Shared a ∷ (Shared b ∷ rest)
+joined v z entry rest = entry ∷ rest
+
+-- lines with this one before them, if it is shown
+abbrev pub placed : View → Sizes → Bool → Entry → List Entry → List Entry
+placed v z shown entry rest = if shown then joined v z entry rest else rest
+
+-- the turn with this number
+abbrev pub made_of : Sizes → ℕ → World Held → Step Kind → MadeTurn
+made_of z number w s = made_by (row_of z number w s) (line_of (hand_in mmu w s.actor)).number (turn_in w s)
+
+-- the lines of these marks, before which the run had come so far
+abbrev pub entries : View → Sizes → Reach → List Mark → List Entry
+entries v z r [] = []
+entries v z r (Made w s ∷ more) =
+    placed v z (shows v r (made_of z r.number w s)) (turn_entry z (row_of z r.number w s) (turn_in w s))
+    (entries v z (after_turn v r (made_of z r.number w s)) more)
+entries v z r (Begins item ∷ more) = placed v z (shows_item v r item) (Text (item_text item)) (entries v z (after_go v r) more)
+entries v z r (Rounds ∷ more) = placed v z (shows_rounds v r) (Text rounds_text) (entries v z (after_go v r) more)
+entries v z r (Over open_ ∷ more) = Text (open_text open_) ∷ entries v z r more
 
 abbrev pub entry_text : Sizes → Entry → List ℕ
-entry_text z (Turns row ended) = row_text z row ended
+entry_text z (Shared fold) = fold_text z fold
+entry_text z (Ended row ended) = row_text z row ended
 entry_text z (Text text) = text
 
 abbrev pub lines_text : Sizes → List Entry → List ℕ
@@ -64,29 +113,5 @@ lines_text z [] = []
 lines_text z (entry ∷ rest) = entry_text z entry ++ lines_text z rest
 
 -- the whole text of a run with these marks
-abbrev pub steps_text : Sizes → List Mark → List ℕ
-steps_text z marks = lines_text z (entries z 1 marks)
-
--- the lines after stores that may go on
-abbrev pub after_fills : Sizes → Option Row → List Entry → List Entry
-after_fills z None rest = rest
-after_fills z (Some row) rest = joined z (Turns row []) rest
-
--- the text that is still to come of a run: of stores that may go on, and of these marks
-abbrev pub coming_text : Sizes → Option Row → ℕ → List Mark → List ℕ
-coming_text z fills number marks = lines_text z (after_fills z fills (entries z number marks))
-
--- the text of stores that may go on, where nothing goes on with them
-abbrev pub fills_text : Sizes → Option Row → List ℕ
-fills_text z None = []
-fills_text z (Some row) = row_text z row []
-
--- The text so far and what is still to come are the same with this entry before and without it after, whatever follows.
-abbrev pub PutsEntry : Sizes → Option Row → List ℕ → Entry → Option Row → List ℕ → Type 0
-PutsEntry z fills before entry fills_after text =
-    (rest : List Entry) → text ++ lines_text z (after_fills z fills_after rest) ≡ before ++ lines_text z (after_fills z fills (joined z entry rest))
-
--- Something is told of how the turn ended.
-abbrev pub IsTold : Ending → Type 0
-IsTold GoesOn = ⊥
-IsTold _ = Unit {0}
+abbrev pub steps_text : View → Sizes → List Mark → List ℕ
+steps_text v z marks = lines_text z (entries v z first_reach marks)

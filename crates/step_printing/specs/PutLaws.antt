@@ -12,7 +12,7 @@ use Rattle.tdp_io.specs.declared.sink.Stop.TheVariants.{NoMemory}
 use Rattle.weave_engine.specs.AnswerTexts.{ends_over}
 use Rattle.turn_loops.specs.Marks.{Mark}
 use Rattle.weave_engine.specs.PrinterLaws.{over_append}
-use Rattle.step_printing.specs.Lines.{coming_text}
+use Rattle.step_printing.specs.Coming.{coming_text}
 use Rattle.step_printing.specs.Puts.{MayPrint, Printed, PutsSteps, StopsSteps}
 
 -- What is written is a prefix of more, too.
@@ -48,7 +48,7 @@ nothing_put p may =
 
 pub nothing_stopped : (p : Printed) → MayPrint p → StopsSteps p [] NoMemory p
 nothing_stopped p may = record {
-  written = λ more. none_written p.given (p.waits ++ coming_text p.sizes p.fills p.next more);
+  written = λ more. none_written p.given (p.waits ++ coming_text p.lines more);
   faults = refl;
   failed = may.unfailed;
 }
@@ -57,26 +57,26 @@ pub both_put : (p q r : Printed) (marks more : List Mark) → PutsSteps p marks 
 both_put p q r marks more A B = record {
   written = A.written ++ B.written;
   appends = Appends-trans p.given q.given r.given A.written B.written A.appends B.appends;
-  whole = λ others. append_assoc A.written B.written (r.waits ++ coming_text r.sizes r.fills r.next others)
+  whole = λ others. append_assoc A.written B.written (r.waits ++ coming_text r.lines others)
       ∙ ap (λ (x : List ℕ). A.written ++ x) (B.whole others) ∙ A.whole (more ++ others)
-      ∙ ap (λ (ms : List Mark). p.waits ++ coming_text p.sizes p.fills p.next ms) (sym (append_assoc marks more others));
+      ∙ ap (λ (ms : List Mark). p.waits ++ coming_text p.lines ms) (sym (append_assoc marks more others));
   at_end = by more B;
   may = B.may;
   faults = B.faults ∙ A.faults;
 }
   where
-    by : (more : List Mark) → PutsSteps q more r → ends_over (marks ++ more) ≡ true → r.waits ++ coming_text r.sizes r.fills r.next [] ≡ []
+    by : (more : List Mark) → PutsSteps q more r → ends_over (marks ++ more) ≡ true → r.waits ++ coming_text r.lines [] ≡ []
     by [] C ends =
         let none = A.at_end (ap ends_over (sym (append-nil marks)) ∙ ends) in
-        none_left C.written (r.waits ++ coming_text r.sizes r.fills r.next []) (C.whole [] ∙ none)
+        none_left C.written (r.waits ++ coming_text r.lines []) (C.whole [] ∙ none)
     by (m ∷ ms) C ends = C.at_end (sym (over_append marks ms m) ∙ ends)
 
 pub then_stopped : (p q r : Printed) (marks more : List Mark) (stop : Stop) → PutsSteps p marks q → StopsSteps q more stop r
     → StopsSteps p (marks ++ more) stop r
 then_stopped p q r marks more stop A S = record {
   written = λ others. subst (AppendsPrefix p.given r.given)
-      (A.whole (more ++ others) ∙ ap (λ (ms : List Mark). p.waits ++ coming_text p.sizes p.fills p.next ms) (sym (append_assoc marks more others)))
-      (later p.given q.given r.given A.written (q.waits ++ coming_text q.sizes q.fills q.next (more ++ others)) A.appends (S.written others));
+      (A.whole (more ++ others) ∙ ap (λ (ms : List Mark). p.waits ++ coming_text p.lines ms) (sym (append_assoc marks more others)))
+      (later p.given q.given r.given A.written (q.waits ++ coming_text q.lines (more ++ others)) A.appends (S.written others));
   faults = subst (λ (n : ℕ). WroteFaults {A = Unit {0}} n r.faults (Err stop)) A.faults S.faults;
   failed = S.failed;
 }
@@ -84,7 +84,7 @@ then_stopped p q r marks more stop A S = record {
 -- Who stopped at some marks stopped at more.
 pub stopped_at_more : (p q : Printed) (marks more : List Mark) (stop : Stop) → StopsSteps p marks stop q → StopsSteps p (marks ++ more) stop q
 stopped_at_more p q marks more stop S = record {
-  written = λ others. subst (λ (ms : List Mark). AppendsPrefix p.given q.given (p.waits ++ coming_text p.sizes p.fills p.next ms))
+  written = λ others. subst (λ (ms : List Mark). AppendsPrefix p.given q.given (p.waits ++ coming_text p.lines ms))
       (sym (append_assoc marks more others)) (S.written (more ++ others));
   faults = S.faults;
   failed = S.failed;

@@ -19,11 +19,11 @@ use Rattle.mmu_core.specs.machine.Machine.{Step, World, answered, found, hand_in
 use Rattle.mmu_core.specs.machine.Steps.{place_at}
 use Rattle.mmu_core.specs.machine.Turns.{line_of}
 use Rattle.step_seats.specs.declared.turn.Turn.{Turn}
-use Rattle.step_seats.specs.declared.turn.Turn.TheVariants.{More, Wait, Retry, Done}
+use Rattle.step_seats.specs.declared.turn.Turn.TheVariants.{Wait}
 use Rattle.step_seats.specs.LineTurns.{line_seen, line_turn}
 use Rattle.step_text.specs.declared.row.Row.{Row}
 use Rattle.step_text.specs.declared.word_place.WordPlace.{WordPlace}
-use Rattle.step_text.specs.Endings.{answers_text, lost_text, moved_text, open_text, waits_text}
+use Rattle.step_text.specs.Endings.{lost_text, moved_text, open_text}
 
 -- which word of these areas it is, so many words after the first area begins
 abbrev pub place_among : WordMap → List Area → ℕ → WordPlace
@@ -76,10 +76,3 @@ abbrev pub cause_text : Sizes → Cause → List ℕ
 cause_text z (Open count start end gfn) = open_text count start end
 cause_text z (Moved old now) = moved_text old now
 cause_text z (Entry word read seen) = lost_text z (place_in (map_of z) word) read seen
-
--- what is told of how a turn ended
-abbrev pub ended_text : Sizes → Turn Answer → List ℕ
-ended_text z More = []
-ended_text z (Wait seen) = waits_text
-ended_text z (Retry cause) = cause_text z cause
-ended_text z (Done answer) = answers_text answer

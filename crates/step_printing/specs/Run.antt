@@ -14,6 +14,7 @@ use Rattle.turn_loops.specs.Weaves.{WeavesAll, WeavesPart, WeavesSoFar}
 use Rattle.show_options.specs.declared.asked.Command.{Command}
 use Rattle.show_options.specs.declared.asked.Command.TheVariants.{Weave, Replay}
 use Rattle.step_printing.specs.Lines.{steps_text}
+use Rattle.step_printing.specs.declared.view.View.{View}
 use Rattle.run_status.specs.declared.status.Status.{Status}
 use Rattle.run_status.specs.declared.status.Status.TheVariants.{Done, Unfinished, WriteFault, NoMemory}
 
@@ -41,19 +42,19 @@ IsRunSoFar Replay trace limit marks =
     ((closing : World Held) × (count : ℕ) × (bytes : List ℕ) × (R : Replays trace (take count trace.lines) bytes closing)
     × (marks ≡ turns_from R.start R.runs.steps)) ⊎ IsRun Replay trace limit marks
 
--- The text of marks that are such was written.
-abbrev pub WritesWhole : (List Mark → Type 0) → Trace → Option (List ℕ) → Option (List ℕ) → Type 0
-WritesWhole Are trace before after = (marks : List Mark) × Are marks × Appends before after (steps_text (sizes_of trace.header) marks)
+-- The text of marks that are such was written, as the view shows them.
+abbrev pub WritesWhole : (List Mark → Type 0) → View → Trace → Option (List ℕ) → Option (List ℕ) → Type 0
+WritesWhole Are v trace before after = (marks : List Mark) × Are marks × Appends before after (steps_text v (sizes_of trace.header) marks)
 
 -- A prefix of it was written, whatever marks would have followed.
-abbrev pub WritesSome : (List Mark → Type 0) → Trace → Option (List ℕ) → Option (List ℕ) → Type 0
-WritesSome Are trace before after = (marks : List Mark) × Are marks
-    × ((more : List Mark) → AppendsPrefix before after (steps_text (sizes_of trace.header) (marks ++ more)))
+abbrev pub WritesSome : (List Mark → Type 0) → View → Trace → Option (List ℕ) → Option (List ℕ) → Type 0
+WritesSome Are v trace before after = (marks : List Mark) × Are marks
+    × ((more : List Mark) → AppendsPrefix before after (steps_text v (sizes_of trace.header) (marks ++ more)))
 
 -- what was written of a run of a trace, by its status
-abbrev pub WritesSteps : Command → Trace → ℕ → Option (List ℕ) → Option (List ℕ) → Status → Type 0
-WritesSteps command trace limit before after Done = WritesWhole (IsRun command trace limit) trace before after
-WritesSteps command trace limit before after (Unfinished actor line) = WritesWhole (IsOpenRun command trace limit actor line) trace before after
-WritesSteps command trace limit before after WriteFault = WritesSome (IsRunSoFar command trace limit) trace before after
-WritesSteps command trace limit before after NoMemory = WritesSome (IsRunSoFar command trace limit) trace before after
-WritesSteps command trace limit before after _ = ⊥
+abbrev pub WritesSteps : Command → View → Trace → ℕ → Option (List ℕ) → Option (List ℕ) → Status → Type 0
+WritesSteps command v trace limit before after Done = WritesWhole (IsRun command trace limit) v trace before after
+WritesSteps command v trace limit before after (Unfinished actor line) = WritesWhole (IsOpenRun command trace limit actor line) v trace before after
+WritesSteps command v trace limit before after WriteFault = WritesSome (IsRunSoFar command trace limit) v trace before after
+WritesSteps command v trace limit before after NoMemory = WritesSome (IsRunSoFar command trace limit) v trace before after
+WritesSteps command v trace limit before after _ = ⊥

@@ -3,9 +3,11 @@
 
 mod laws;
 mod lines;
+mod naming;
 mod program;
 mod row;
 mod step_printer;
+mod view;
 
-pub use laws::lines_tell_turns;
+pub use laws::{lines_tell_shown_turns, lines_tell_turns};
 pub use program::{run, run_within};

@@ -1,18 +1,23 @@
 //! The whole program, but for its source, its sink and its words.
-ghost use Rattle.std.specs.Prelude.{◌≡◌, [], IfSome, None, false, map, string_bytes, take};
+ghost use Rattle.std.specs.Prelude.{◌≡◌, [], IfOk, IfSome, false, map, string_bytes, take};
 ghost use Rattle.run_status.specs.Refusals.{rounds_limit};
 ghost use Rattle.run_status.specs.Statuses.{ReadCause, WriteCause, WritesUsage, status_is_write_fault};
-ghost use Rattle.core_views.specs.Sizes.{sizes_of};
+ghost use Rattle.core_views.specs.Sizes.{AreSizes, sizes_of};
 ghost use Rattle.core_views.specs.Traces.{IsTrace};
 ghost use Rattle.show_options.specs.Faults.{fault_text};
-ghost use Rattle.step_printing.specs.Prints.{Prints, PrintsRun, WritesHelp, command_of};
+ghost use Rattle.step_printing.specs.Coming.{first_lines};
+ghost use Rattle.step_printing.specs.Naming.{MakesView, has_options};
 ghost use Rattle.step_printing.specs.Puts.{MayPrint, printed_by};
+ghost use Rattle.step_printing.specs.Prints.{Prints, PrintsRun, WritesHelp, WritesTrace, command_of};
 ghost use Rattle.step_printing.specs.Run.{WritesSteps};
 
+use crate::lines::Lines;
+use crate::naming::word_named;
 use crate::step_printer::StepPrinter;
+use crate::view::View;
 use core_views::{NoMemory, Sizes, Trace};
 use run_status::{ROUNDS, Status, refuse, usage};
-use show_options::{Asked, Command, Fault, push_fault, read_words, usage_text};
+use show_options::{Asked, Command, Fault, Wrong, push_fault, read_words, usage_text, word_at};
 use std::alloc::Global;
 use tdp_io::{Sink, Source};
 use trace_reader::{Read, read_trace};
@@ -26,6 +31,51 @@ fn command_of(asked: &Asked) -> Command
         Some(command) => command,
         None => Command::Weave,
     }
+}
+
+fn has_options(asked: &Asked) -> bool
+    ensures { result ≡ has_options asked.now }
+{
+    asked.from.is_some()
+        || asked.to.is_some()
+        || asked.actor.is_some()
+        || asked.kind.is_some()
+        || asked.word.is_some()
+        || asked.changes
+}
+
+// What is to be shown of a run on a machine of these sizes, or that no word of the machine
+// has the name that is asked for.
+fn view_of(
+    alloc: Global,
+    sizes: &Sizes,
+    words: &[String],
+    asked: &Asked,
+) -> Result<Result<View, Fault>, NoMemory>
+    requires { AreSizes sizes.now }
+    ensures { IfOk result (λ view. MakesView sizes.now (map string_bytes words.now) asked.now view) }
+{
+    let mut view = View {
+        from: asked.from,
+        to: asked.to,
+        actor: asked.actor,
+        kind: asked.kind,
+        word: None,
+        changes: asked.changes,
+        folds: has_options(asked),
+    };
+    let Some(at) = asked.word else {
+        return Ok(Ok(view));
+    };
+    let place = word_named(alloc, sizes, word_at(words, at))?;
+    if place.is_none() {
+        return Ok(Err(Fault {
+            at,
+            wrong: Wrong::NoWord,
+        }));
+    }
+    view.word = place;
+    Ok(Ok(view))
 }
 
 // Writes what is wrong with the words.
@@ -65,12 +115,10 @@ fn print_steps<K: Sink>(
 ) -> Status
     requires trace { IsTrace trace.now }
     requires ready { MayPrint (printed_by (K.written printer.old.out.now) (K.faults printer.old.out.now) (K.failed printer.old.out.now)
-        (string_bytes printer.old.waiting.now) printer.old.sizes printer.old.fills printer.old.next) }
-    requires sizes { printer.old.sizes ≡ sizes_of trace.now.header }
+        (string_bytes printer.old.waiting.now) printer.old.lines) }
     requires fresh { string_bytes printer.old.waiting.now ≡ [] }
-    requires none { printer.old.fills ≡ None }
-    requires first { printer.old.next ≡ 1 }
-    ensures written { WritesSteps command trace.now limit (K.written printer.old.out.now) (K.written printer.new.out.now) result }
+    requires first { printer.old.lines ≡ first_lines printer.old.lines.view (sizes_of trace.now.header) }
+    ensures written { WritesSteps command printer.old.lines.view trace.now limit (K.written printer.old.out.now) (K.written printer.new.out.now) result }
     ensures write { WriteCause (K.faults printer.old.out.now) (K.faults printer.new.out.now) result }
     ensures failed { K.failed printer.new.out.now ≡ status_is_write_fault result }
     ensures same { printer.new.out.ghost_name ≡ printer.old.out.ghost_name }
@@ -81,17 +129,18 @@ fn print_steps<K: Sink>(
     }
 }
 
-// The input is this trace.
-fn run_trace<K: Sink>(
+// The steps of the trace are shown so.
+fn show_trace<K: Sink>(
     alloc: Global,
     command: Command,
+    view: View,
     trace: &Trace,
     limit: u64,
     out: &mut K,
 ) -> Status
     requires trace { IsTrace trace.now }
     requires unfailed { K.failed out.old ≡ false }
-    ensures written { WritesSteps command trace.now limit (K.written out.old) (K.written out.new) result }
+    ensures written { WritesSteps command view trace.now limit (K.written out.old) (K.written out.new) result }
     ensures write { WriteCause (K.faults out.old) (K.faults out.new) result }
     ensures failed { K.failed out.new ≡ status_is_write_fault result }
 {
@@ -99,24 +148,45 @@ fn run_trace<K: Sink>(
     let mut printer = StepPrinter {
         out,
         waiting: &mut waiting,
-        sizes: Sizes::of(&trace.header),
-        fills: None,
-        next: 1,
+        lines: Lines::first(view, Sizes::of(&trace.header)),
     };
     print_steps(alloc, command, trace, limit, &mut printer)
 }
 
-// Runs the trace that `src` has left, so.
-fn run_command<S: Source, K: Sink>(
+// The input is this trace.
+fn run_trace<K: Sink>(
     alloc: Global,
-    command: Command,
+    words: &[String],
+    asked: &Asked,
+    trace: &Trace,
+    limit: u64,
+    out: &mut K,
+) -> Status
+    requires trace { IsTrace trace.now }
+    requires unfailed { K.failed out.old ≡ false }
+    ensures written { WritesTrace (map string_bytes words.now) asked.now trace.now limit (K.written out.old) (K.written out.new) result }
+    ensures write { WriteCause (K.faults out.old) (K.faults out.new) result }
+    ensures failed { K.failed out.new ≡ status_is_write_fault result }
+{
+    match view_of(alloc, &Sizes::of(&trace.header), words, asked) {
+        Err(NoMemory) => Status::NoMemory,
+        Ok(Err(fault)) => refuse_words(alloc, words, fault, out),
+        Ok(Ok(view)) => show_trace(alloc, command_of(asked), view, trace, limit, out),
+    }
+}
+
+// Runs the trace that `src` has left, so.
+fn run_asked<S: Source, K: Sink>(
+    alloc: Global,
+    words: &[String],
+    asked: &Asked,
     limit: u64,
     src: &mut S,
     out: &mut K,
 ) -> Status
     requires unfailed { K.failed out.old ≡ false }
     ensures prints { IfSome (S.left src.old)
-        (λ input. PrintsRun command limit (take 16777217 input) (K.written out.old) (K.written out.new) result) }
+        (λ input. PrintsRun (map string_bytes words.now) asked.now limit (take 16777217 input) (K.written out.old) (K.written out.new) result) }
     ensures read { ReadCause (S.faults src.old) (S.faults src.new) result }
     ensures write { WriteCause (K.faults out.old) (K.faults out.new) result }
     ensures failed { K.failed out.new ≡ status_is_write_fault result }
@@ -125,7 +195,7 @@ fn run_command<S: Source, K: Sink>(
         Err(NoMemory) => Status::NoMemory,
         Ok(Read::ReadFault) => Status::ReadFault,
         Ok(Read::Refused { line, reason }) => refuse(alloc, line, reason, out),
-        Ok(Read::Trace(trace)) => run_trace(alloc, command, &trace, limit, out),
+        Ok(Read::Trace(trace)) => run_trace(alloc, words, asked, &trace, limit, out),
     }
 }
 
@@ -150,7 +220,7 @@ pub fn run_within<S: Source, K: Sink>(
             if asked.help {
                 help(out)
             } else {
-                run_command(alloc, command_of(&asked), limit, src, out)
+                run_asked(alloc, words, &asked, limit, src, out)
             }
         }
     }

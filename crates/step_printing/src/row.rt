@@ -16,8 +16,8 @@ use spte_words::{Area, ENTRIES, WordMap};
 use step_seats::{MachineOwner, PlainMachine, next_kind, rests};
 use step_text::{Ending, Row, WordPlace, place_of};
 
-// The place of a word, and that of the first one where there is no such word.
-fn place_in(map: &WordMap, word: u32) -> WordPlace
+/// The place of a word, and that of the first one where there is no such word.
+pub fn place_in(map: &WordMap, word: u32) -> WordPlace
     requires { IsWordMap map.now }
     ensures { result ≡ place_in map.now word }
 {

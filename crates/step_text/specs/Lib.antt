@@ -2,4 +2,5 @@ pub mod Names
 pub mod Values
 pub mod Endings
 pub mod Rows
+pub mod Folds
 pub mod Laws

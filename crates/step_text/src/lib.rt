@@ -3,6 +3,7 @@
 #![tactic(auto)]
 
 mod ending;
+mod fold;
 mod item;
 mod laws;
 mod row;
@@ -11,7 +12,8 @@ mod value;
 mod word_place;
 
 pub use ending::Ending;
+pub use fold::{Fold, push_fold};
 pub use item::{push_item, push_rounds};
 pub use laws::{kind_names_are_read, names_tell_words};
 pub use row::{Row, push_row};
-pub use word_place::{WordPlace, place_of};
+pub use word_place::{WordPlace, place_of, push_words};

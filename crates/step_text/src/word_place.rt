@@ -103,7 +103,7 @@ fn push_paged(
 /// Puts the name of so many words after a text, of which the first is at this place, and
 /// which follow one another.
 #[tactic(auto, unfolding(crate::specs::Names::words_text))]
-pub(crate) fn push_words(
+pub fn push_words(
     text: &mut String,
     sizes: &Sizes,
     place: WordPlace,

@@ -11,34 +11,32 @@ pub returns-in-Weave-clause-written : goal.returns-in-Weave-clause-written
 returns-in-Weave-clause-written g c =
     let V : Type 0 = StepPrinter g.row.K.Denot in
     let at : V → Printed =
-    λ p. printed_by (g.K.Sink.written p.out.now) (g.K.Sink.faults p.out.now) (g.K.Sink.failed p.out.now) (string_bytes p.waiting.now) p.sizes
-    p.fills p.next in
+    λ p. printed_by (g.K.Sink.written p.out.now) (g.K.Sink.faults p.out.now) (g.K.Sink.failed p.out.now) (string_bytes p.waiting.now) p.lines in
     let prints : V → List Mark → V → Type 0 = λ p marks q. PutsSteps (at p) marks (at q) × (q.out.ghost_name ≡ p.out.ghost_name) in
     let stops : V → List Mark → Stop → V → Type 0 = λ p marks stop q. StopsSteps (at p) marks stop (at q) × (q.out.ghost_name ≡ p.out.ghost_name) in
     let p = c.args.printer.now in
     let q = c.weave_with.new.printer in
-    let fresh : IsFresh (at p) (sizes_of c.args.trace.now.header) =
-    record { sizes = c.requires.sizes; waits = c.requires.fresh; fills = c.requires.none; next = c.requires.first } in
+    let v = p.lines.view in
+    let fresh : IsFresh (at p) v (sizes_of c.args.trace.now.header) = record { waits = c.requires.fresh; lines = c.requires.first } in
     rw (c.in-Weave.is, c.status_of.ensures)
-    (weave_writes prints stops (λ p. g.K.Sink.written p.out.now) c.args.trace.now p q
-    (λ ms open_ put. whole_written (at p) (at q) (sizes_of c.args.trace.now.header) fresh ms open_ put.0)
-    (λ ms stop part. part_written (at p) (at q) (sizes_of c.args.trace.now.header) fresh ms stop part.0)
+    (weave_writes prints stops (λ p. g.K.Sink.written p.out.now) v c.args.trace.now p q
+    (λ ms open_ put. whole_written (at p) (at q) v (sizes_of c.args.trace.now.header) fresh ms open_ put.0)
+    (λ ms stop part. part_written (at p) (at q) v (sizes_of c.args.trace.now.header) fresh ms stop part.0)
     c.args.limit c.weave_with.result c.weave_with.ensures)
 
 pub returns-in-Replay-clause-written : goal.returns-in-Replay-clause-written
 returns-in-Replay-clause-written g c =
     let V : Type 0 = StepPrinter g.row.K.Denot in
     let at : V → Printed =
-    λ p. printed_by (g.K.Sink.written p.out.now) (g.K.Sink.faults p.out.now) (g.K.Sink.failed p.out.now) (string_bytes p.waiting.now) p.sizes
-    p.fills p.next in
+    λ p. printed_by (g.K.Sink.written p.out.now) (g.K.Sink.faults p.out.now) (g.K.Sink.failed p.out.now) (string_bytes p.waiting.now) p.lines in
     let prints : V → List Mark → V → Type 0 = λ p marks q. PutsSteps (at p) marks (at q) × (q.out.ghost_name ≡ p.out.ghost_name) in
     let stops : V → List Mark → Stop → V → Type 0 = λ p marks stop q. StopsSteps (at p) marks stop (at q) × (q.out.ghost_name ≡ p.out.ghost_name) in
     let p = c.args.printer.now in
     let q = c.replay_with.new.printer in
-    let fresh : IsFresh (at p) (sizes_of c.args.trace.now.header) =
-    record { sizes = c.requires.sizes; waits = c.requires.fresh; fills = c.requires.none; next = c.requires.first } in
+    let v = p.lines.view in
+    let fresh : IsFresh (at p) v (sizes_of c.args.trace.now.header) = record { waits = c.requires.fresh; lines = c.requires.first } in
     rw (c.in-Replay.is, c.status_of-in-Replay.ensures)
-    (replay_writes prints stops (λ p. g.K.Sink.written p.out.now) c.args.trace.now p q
-    (λ ms open_ put. whole_written (at p) (at q) (sizes_of c.args.trace.now.header) fresh ms open_ put.0)
-    (λ ms stop part. part_written (at p) (at q) (sizes_of c.args.trace.now.header) fresh ms stop part.0)
+    (replay_writes prints stops (λ p. g.K.Sink.written p.out.now) v c.args.trace.now p q
+    (λ ms open_ put. whole_written (at p) (at q) v (sizes_of c.args.trace.now.header) fresh ms open_ put.0)
+    (λ ms stop part. part_written (at p) (at q) v (sizes_of c.args.trace.now.header) fresh ms stop part.0)
     c.args.limit c.replay_with.result c.replay_with.ensures)

@@ -7,6 +7,6 @@ use Rattle.step_printing.proofs.program.run_within.Goals as goal
 pub returns-else-asked-clause-prints : goal.returns-else-asked-clause-prints
 returns-else-asked-clause-prints g c =
     let asked : asked_by (map string_bytes c.args.words.now) ≡ Ok c.in-Ok.asked = grind (arith, common_steps) in
-    run_prints (map string_bytes c.args.words.now) c.args.limit (g.K.Sink.written c.args.out.now) (g.K.Sink.written c.run_command.new.out)
-    c.run_command.result (g.S.Source.left c.args.src.now) c.in-Ok.asked asked c.if-asked.false
-    (rw c.command_of.ensures at c.run_command.ensures.prints)
+    run_prints (map string_bytes c.args.words.now) c.args.limit (g.K.Sink.written c.args.out.now) (g.K.Sink.written c.run_asked.new.out)
+    c.run_asked.result (g.S.Source.left c.args.src.now) c.in-Ok.asked asked c.if-asked.false
+    c.run_asked.ensures.prints
